@@ -1,3 +1,4 @@
 pub mod Kind
 pub mod Fold
 pub mod Layer
+pub mod Hex

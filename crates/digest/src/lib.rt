@@ -6,6 +6,7 @@
 //   layer_of     the layer of a key under a kind
 mod digest;
 mod fold;
+mod hex;
 mod kind;
 
 pub use digest::Digest;
