@@ -1,0 +1,5 @@
+pub mod Chunks
+pub mod Folds
+pub mod Pads
+pub mod Puts
+pub mod Schedules

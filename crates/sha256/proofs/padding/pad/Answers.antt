@@ -1,0 +1,25 @@
+-- The buffer holds the padded rest, up to the end of its one block or two.
+use mathlib.Core.Path.{_≡_, refl, ap, _∙_}
+use mathlib.Core.List.{[], _∷_}
+use Prim.Native.Nat.{ℕ, _+_, _-_, _%_}
+use native.Mathlib.Omega.{arith}
+use lib.ListN.{length, replicate, take}
+use Rattle.sha256.specs.Padding.{padding, length-bytes}
+use Rattle.sha256.proofs.Pads.{padded-rest}
+use Rattle.sha256.proofs.padding.pad.Needs as need
+use Rattle.sha256.proofs.padding.pad.Needs.{then-rest-lt56, else-rest-lt56}
+
+pub returns : need.returns
+unfolding padding
+returns c =
+    let rest = c .args .rest .now in
+    let len = c .args .len in
+    let end = c .if-rest-lt56 .end in
+    let zeros : ℕ = (119 - len % 64) % 64 in
+    let ends : end ≡ length rest + 1 + zeros + 8
+    = elim (c .if-rest-lt56 .came) [ then-rest-lt56 w ↦ omega (arith, w .end-is, w .if-rest-lt56 .taken) | else-rest-lt56 w ↦ omega (arith, w .end-is, w .if-rest-lt56 .left) ] in
+    record {
+      bytes = ap (take end) (c .put-3 .ensures ∙ rw (c .put-2 .ensures, c .put .ensures, c .to-be-bytes .ensures))
+          ∙ padded-rest rest (length-bytes len) 128 end zeros refl ends (omega arith);
+      bound = omega arith;
+    }

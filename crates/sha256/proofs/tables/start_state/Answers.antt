@@ -1,0 +1,8 @@
+use mathlib.Core.Path.{refl}
+use Rattle.sha256.specs.Constants.{start-words}
+use Rattle.sha256.specs.Sha256.{start}
+use Rattle.sha256.proofs.tables.start_state.Needs as need
+
+pub returns : need.returns
+unfolding start start-words
+returns c = refl

@@ -1,0 +1,6 @@
+pub mod Words
+pub mod Constants
+pub mod Rounds
+pub mod Padding
+pub mod Sha256
+pub mod Buffer
