@@ -35,7 +35,7 @@ unfoldable pub schedule : List ℕ → List ℕ
 schedule block = extended 48 (message-words block)
 
 -- one round, with the constant k and the word w
-abbrev pub round : State → ℕ → ℕ → State
+unfoldable pub round : State → ℕ → ℕ → State
 round s k w = turn (add (add (add (add (s .h) (Σ₁ (s .e))) (ch (s .e) (s .f) (s .g))) k) w) (add (Σ₀ (s .a)) (maj (s .a) (s .b) (s .c)))
   where
     turn : ℕ → ℕ → State
