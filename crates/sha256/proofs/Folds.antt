@@ -20,12 +20,12 @@ turn ks ws s t = round s (getD ks t 0) (getD ws t 0)
 
 -- the first of the rounds from t on
 rounds-next : (ks ws : List ℕ) (s : State) (n t next : ℕ) → t < length ks → t < length ws → t + 1 ≡ next
-  → rounds s (take (suc n) (drop t ks)) (take (suc n) (drop t ws)) ≡ rounds (turn ks ws s t) (take n (drop next ks)) (take n (drop next ws))
+    → rounds s (take (suc n) (drop t ks)) (take (suc n) (drop t ws)) ≡ rounds (turn ks ws s t) (take n (drop next ks)) (take n (drop next ws))
 rounds-next ks ws s n t next in-ks in-ws e = rw (← e) (ap₂ (λ k w. rounds s (take (suc n) k) (take (suc n) w)) (drop-more ks t 0 in-ks) (drop-more ws t 0 in-ws))
 
 pub eight-turns : (ks ws : List ℕ) (s : State) (t : ℕ) → t + 8 ≤ length ks → t + 8 ≤ length ws
-  → rounds s (between t (t + 8) ks) (between t (t + 8) ws)
-  ≡ (let go = turn ks ws in go (go (go (go (go (go (go (go s t) (t + 1)) (t + 2)) (t + 3)) (t + 4)) (t + 5)) (t + 6)) (t + 7))
+    → rounds s (between t (t + 8) ks) (between t (t + 8) ws)
+    ≡ (let go = turn ks ws in go (go (go (go (go (go (go (go s t) (t + 1)) (t + 2)) (t + 3)) (t + 4)) (t + 5)) (t + 6)) (t + 7))
 eight-turns ks ws s t in-ks in-ws =
     let eight : t + 8 - t ≡ 8 = omega arith in
     let go = turn ks ws in
@@ -48,15 +48,15 @@ rounds-append s (k ∷ ks) (w ∷ ws) ks′ ws′ same = rounds-append (round s 
 
 -- eight of the rounds that are left
 pub rounds-eight : (ks ws : List ℕ) (s : State) (i : ℕ) → 8 * i + 8 ≤ length ks → 8 * i + 8 ≤ length ws
-  → rounds s (drop (8 * i) ks) (drop (8 * i) ws)
-  ≡ rounds (rounds s (between (8 * i) (8 * i + 8) ks) (between (8 * i) (8 * i + 8) ws)) (drop (8 * (i + 1)) ks) (drop (8 * (i + 1)) ws)
+    → rounds s (drop (8 * i) ks) (drop (8 * i) ws)
+    ≡ rounds (rounds s (between (8 * i) (8 * i + 8) ks) (between (8 * i) (8 * i + 8) ws)) (drop (8 * (i + 1)) ks) (drop (8 * (i + 1)) ws)
 rounds-eight ks ws s i in-ks in-ws =
     let eight : 8 * i + 8 - 8 * i ≡ 8 = omega arith in
     let next : 8 * i + 8 ≡ 8 * (i + 1) = omega arith in
     let cut : (xs : List ℕ) → drop (8 * i) xs ≡ take 8 (drop (8 * i) xs) ++ drop (8 * (i + 1)) xs
-          = λ xs. sym (take-append-drop 8 (drop (8 * i) xs)) ∙ ap (λ rest. take 8 (drop (8 * i) xs) ++ rest) (drop-drop 8 (8 * i) xs ∙ ap (λ n. drop n xs) next) in
+    = λ xs. sym (take-append-drop 8 (drop (8 * i) xs)) ∙ ap (λ rest. take 8 (drop (8 * i) xs) ++ rest) (drop-drop 8 (8 * i) xs ∙ ap (λ n. drop n xs) next) in
     let size : (xs : List ℕ) → 8 * i + 8 ≤ length xs → length (take 8 (drop (8 * i) xs)) ≡ 8
-          = λ xs room. length-take-le 8 (drop (8 * i) xs) (omega (arith, length-drop (8 * i) xs)) in
+    = λ xs room. length-take-le 8 (drop (8 * i) xs) (omega (arith, length-drop (8 * i) xs)) in
     rw eight (ap₂ (rounds s) (cut ks) (cut ws) ∙ rounds-append s _ _ _ _ (size ks in-ks ∙ sym (size ws in-ws)))
 
 -- no round is left

@@ -3,3 +3,5 @@ pub mod Folds
 pub mod Pads
 pub mod Puts
 pub mod Schedules
+pub mod Primes
+pub mod Roots

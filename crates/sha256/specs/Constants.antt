@@ -8,10 +8,10 @@
 --   start-words         the 8 start words
 --   constants           the 64 constants
 --
--- Assumes nothing.
-use mathlib.Core.Bool.{Bool, true, false, cond, not, _&&_}
-use mathlib.Core.List.{List, [], _∷_, map}
-use Prim.Native.Nat.{ℕ, zero, suc, _+_, _*_, _%_, _^_}
+-- These compute. Rule.antt says in words of arithmetic what they come to. Assumes nothing.
+use mathlib.Core.Bool.{Bool, true, cond, not, _&&_}
+use mathlib.Core.List.{List, map}
+use Prim.Native.Nat.{ℕ, zero, suc, _+_, _-_, _*_, _%_, _^_}
 use lib.Dec.{eqb, leb}
 use lib.ListN.{take}
 use Rattle.std.specs.Iters.{counting}
@@ -22,25 +22,23 @@ abbrev pub undivided : ℕ → ℕ → ℕ → Bool
 undivided n d zero = true
 undivided n d (suc k) = not (eqb (n % d) 0) && undivided n (d + 1) k
 
--- a number from 2 on that none from 2 up to itself divides
+-- a number that none from 2 up to below itself divides, of those from 2 on
 abbrev pub prime : ℕ → Bool
-prime zero = false
-prime (suc zero) = false
-prime (suc (suc k)) = undivided (suc (suc k)) 2 k
+prime n = undivided n 2 (n - 2)
 
 abbrev pub first-primes : List ℕ
-first-primes = kept-by prime (counting 0 312)
+first-primes = kept-by prime (counting 2 310)
 
--- the largest c with c ^ e ≤ n, if it is below so-far + 2 ^ k and not below so-far: bit by bit, the highest first
+-- the largest c with c ^ e ≤ n, if it lies between so-far and so-far + 2 ^ k: bit by bit, the highest first
 abbrev pub root-from : ℕ → ℕ → ℕ → ℕ → ℕ
 root-from e n zero so-far = so-far
 root-from e n (suc k) so-far = root-from e n k (cond (leb ((so-far + 2 ^ k) ^ e) n) (so-far + 2 ^ k) so-far)
 
--- below 2 ^ 40, which the roots here are
+-- below 2 ^ 40, as the roots here are
 abbrev pub root : ℕ → ℕ → ℕ
 root e n = root-from e n 40 0
 
--- the e-th root of p has 32 bits of fraction in the root of p · 2 ^ 32e
+-- the root of p · 2 ^ 32e is that of p with 32 bits of its fraction
 abbrev pub fraction : ℕ → ℕ → ℕ
 fraction e p = root e (p * 2 ^ (32 * e)) % 2 ^ 32
 
@@ -48,4 +46,4 @@ unfoldable pub start-words : List ℕ
 start-words = map (fraction 2) (take 8 first-primes)
 
 unfoldable pub constants : List ℕ
-constants = map (fraction 3) first-primes
+constants = map (fraction 3) (take 64 first-primes)

@@ -1,5 +1,6 @@
 pub mod Words
 pub mod Constants
+pub mod Rule
 pub mod Rounds
 pub mod Padding
 pub mod Sha256

@@ -3,7 +3,7 @@ ghost use mathlib.Core.Path.{_≡_};
 ghost use mathlib.Core.List.{_++_};
 ghost use Prim.Native.Nat.{_%_, _≤_};
 ghost use lib.ListN.{length, take};
-ghost use Rattle.sha256.specs.Padding.{padding};
+ghost use Rattle.sha256.specs.Padding.{Least-zeros, padding};
 use crate::buffer::put;
 
 // One block or two, at the start of room for two.
@@ -17,6 +17,7 @@ pub(crate) struct Tail {
 pub(crate) fn pad(rest: &[u8], len: usize) -> Tail
     requires { ⌜ length (now rest) ≡ len % 64 ⌝ }
     ensures bytes { λ r. ⌜ take (r .len) (r .bytes) ≡ now (rest .entry) ++ padding len ⌝ }
+    ensures shortest { λ _. ⌜ Least-zeros len ⌝ }
     ensures bound { λ r. ⌜ r .len ≤ 128 ⌝ }
 {
     let mut bytes = [0u8; 128];

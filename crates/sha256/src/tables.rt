@@ -3,7 +3,8 @@ ghost use mathlib.Core.Path.{_≡_};
 ghost use Prim.Native.Nat.{_<_};
 ghost use lib.ListN.{getD};
 ghost use Rattle.sha256.specs.Constants.{constants};
-ghost use Rattle.sha256.specs.Sha256.{start};
+ghost use Rattle.sha256.specs.Rule.{Root-fractions};
+ghost use Rattle.sha256.specs.Sha256.{start, state-words};
 use crate::state::State;
 
 // The first 32 bits of the fractions of the square roots of the first 8 primes.
@@ -88,7 +89,8 @@ const CONSTANTS: [u32; 64] = [
 
 // The state before the first block.
 pub(crate) fn start_state() -> State
-    ensures { λ r. ⌜ r ≡ start ⌝ }
+    ensures value { λ r. ⌜ r ≡ start ⌝ }
+    ensures rule { λ r. ⌜ Root-fractions 2 (state-words r) ⌝ }
 {
     START
 }
@@ -96,7 +98,8 @@ pub(crate) fn start_state() -> State
 // The constant of round `t`.
 pub(crate) fn constant(t: usize) -> u32
     requires { ⌜ t < 64 ⌝ }
-    ensures { λ r. ⌜ r ≡ getD constants t 0 ⌝ }
+    ensures value { λ r. ⌜ r ≡ getD constants t 0 ⌝ }
+    ensures rule { λ _. ⌜ Root-fractions 3 constants ⌝ }
 {
     CONSTANTS[t]
 }

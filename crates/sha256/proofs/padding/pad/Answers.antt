@@ -1,10 +1,9 @@
 -- The buffer holds the padded rest, up to the end of its one block or two.
 use mathlib.Core.Path.{_≡_, refl, ap, _∙_}
-use mathlib.Core.List.{[], _∷_}
-use Prim.Native.Nat.{ℕ, _+_, _-_, _%_}
+use Prim.Native.Nat.{_+_}
 use native.Mathlib.Omega.{arith}
-use lib.ListN.{length, replicate, take}
-use Rattle.sha256.specs.Padding.{padding, length-bytes}
+use lib.ListN.{length, take}
+use Rattle.sha256.specs.Padding.{padding, length-bytes, zeros}
 use Rattle.sha256.proofs.Pads.{padded-rest}
 use Rattle.sha256.proofs.padding.pad.Needs as need
 use Rattle.sha256.proofs.padding.pad.Needs.{then-rest-lt56, else-rest-lt56}
@@ -15,11 +14,11 @@ returns c =
     let rest = c .args .rest .now in
     let len = c .args .len in
     let end = c .if-rest-lt56 .end in
-    let zeros : ℕ = (119 - len % 64) % 64 in
-    let ends : end ≡ length rest + 1 + zeros + 8
+    let ends : end ≡ length rest + 1 + zeros len + 8
     = elim (c .if-rest-lt56 .came) [ then-rest-lt56 w ↦ omega (arith, w .end-is, w .if-rest-lt56 .taken) | else-rest-lt56 w ↦ omega (arith, w .end-is, w .if-rest-lt56 .left) ] in
     record {
       bytes = ap (take end) (c .put-3 .ensures ∙ rw (c .put-2 .ensures, c .put .ensures, c .to-be-bytes .ensures))
-          ∙ padded-rest rest (length-bytes len) 128 end zeros refl ends (omega arith);
+          ∙ padded-rest rest (length-bytes len) 128 end (zeros len) refl ends (omega arith);
+      shortest = record { reaches = omega arith; least = λ k e. omega arith };
       bound = omega arith;
     }

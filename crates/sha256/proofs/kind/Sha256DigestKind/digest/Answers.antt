@@ -23,7 +23,7 @@ returns c =
     let padded-rest : take (made .len - 0) (made .bytes) ≡ tail
     = rw sub-zero (c .pad-tail .ensures .bytes ∙ ap (λ bytes. bytes ++ padding (length message)) (c .as-chunks .ensures .back)) in
     let last : c .as-chunks-2 .result .0 .now ≡ blocks tail = c .as-chunks-2 .ensures .front ∙ ap blocks padded-rest in
-    let state : c .compress-all-state .result ≡ compress-all start whole = c .compress-all-state .ensures ∙ rw (c .start-state .ensures, c .as-chunks .ensures .front) in
+    let state : c .compress-all-state .result ≡ compress-all start whole = c .compress-all-state .ensures ∙ rw (c .start-state .ensures .value, c .as-chunks .ensures .front) in
     let end : c .compress-all .result ≡ compress-all start (whole ++ blocks tail)
     = c .compress-all .ensures ∙ rw (state, last) (sym (compress-all-append start whole (blocks tail))) in
     c .to-bytes .ensures ∙ ap state-bytes (end ∙ ap (compress-all start) (sym (blocks-padded message)))
