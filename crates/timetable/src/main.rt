@@ -1,0 +1,40 @@
+// Answers the lines of standard input, one by one, on standard output.
+ghost use Prim.Native.Nat.{_≤_};
+ghost use lib.ListN.{length};
+ghost use Rattle.std.specs.Vec.{made};
+use digest::Fold;
+use digest::FoldDigestKind;
+use session::LIMIT;
+use session::answers;
+use std::io;
+use std::io::Read;
+use std::io::Write;
+
+mod command;
+mod lines;
+mod session;
+
+// One byte more than a session takes, to tell an input that is too long.
+const BUFFER: usize = LIMIT + 1;
+
+fn main(rt: LibcRuntime) -> io::Result<()> {
+    let mut buffer = [0u8; BUFFER];
+    let count = fill(&mut rt.stdin(), &mut buffer)?;
+    let out = answers::<Fold>(rt.alloc(), &buffer[0..count])?;
+    rt.stdout().write_all(&out)
+}
+
+// Reads until the buffer is full or the input ends, and says how many bytes came.
+fn fill<R: Read>(input: &mut R, buffer: &mut [u8]) -> io::Result<usize>
+    ensures { λ r. ⌜ made r (λ n. n ≤ length (now (buffer .exit))) ⌝ }
+{
+    let mut filled = 0;
+    for _ in 0..buffer.len() {
+        let count = input.read(&mut buffer[filled..])?;
+        if count == 0 {
+            break;
+        }
+        filled += count;
+    }
+    Ok(filled)
+}
