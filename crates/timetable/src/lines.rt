@@ -1,7 +1,4 @@
 // A text cut into lines.
-ghost use mathlib.Core.Path.{_≡_};
-ghost use Prim.Native.Nat.{ℕ, _<_, _≤_};
-ghost use lib.ListN.{length};
 ghost use Rattle.timetable.specs.Lines.{First-newline, Splits};
 
 // The length of the first line: the index of the first newline, or the length of the text where there is none.

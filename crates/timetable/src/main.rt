@@ -1,7 +1,8 @@
 // Answers the lines of standard input, one by one, on standard output.
-ghost use Prim.Native.Nat.{_≤_};
+ghost use Prim.Native.Nat.{_<_, _≤_};
 ghost use lib.ListN.{length};
 ghost use Rattle.std.specs.Vec.{made};
+ghost use Rattle.timetable.specs.Session.{limit};
 use digest::Fold;
 use digest::FoldDigestKind;
 use session::LIMIT;
@@ -14,18 +15,20 @@ mod command;
 mod lines;
 mod session;
 
-// One byte more than a session takes, to tell an input that is too long.
+// Room for one byte more than a session takes.
 const BUFFER: usize = LIMIT + 1;
 
 fn main(rt: LibcRuntime) -> io::Result<()> {
     let mut buffer = [0u8; BUFFER];
-    let count = fill(&mut rt.stdin(), &mut buffer)?;
+    let count = read_input(&mut rt.stdin(), &mut buffer)?;
     let out = answers::<Fold>(rt.alloc(), &buffer[0..count])?;
     rt.stdout().write_all(&out)
 }
 
-// Reads until the buffer is full or the input ends, and says how many bytes came.
-fn fill<R: Read>(input: &mut R, buffer: &mut [u8]) -> io::Result<usize>
+// Reads until the buffer is full or the input ends, and says how many bytes came. The buffer has room for more than the
+// limit, so an input that is too long is seen to be.
+fn read_input<R: Read>(input: &mut R, buffer: &mut [u8]) -> io::Result<usize>
+    requires { ⌜ limit < length (now buffer) ⌝ }
     ensures { λ r. ⌜ made r (λ n. n ≤ length (now (buffer .exit))) ⌝ }
 {
     let mut filled = 0;
