@@ -2,8 +2,9 @@
 --
 --   newline         the byte that ends a line
 --   terminated      a line followed by its newline
+--   before          one byte more at the front of the first line
 --   lines           the lines of a text, in order
---   Line            a line has no newline in it
+--   Line            bytes with no newline among them
 --   Closed          a text that is empty or ends with a newline
 --   Lines-of        what the lines of a text are
 --   First-newline   the length of the first line
@@ -24,6 +25,7 @@ use Rattle.std.specs.shelf.Lists.{All}
 abbrev pub newline : ℕ
 newline = 10
 
+-- a line as it stands in a text
 abbrev pub terminated : List ℕ → List ℕ
 terminated line = line ++ newline ∷ []
 
@@ -37,12 +39,15 @@ unfoldable pub lines : List ℕ → List (List ℕ)
 lines [] = []
 lines (b ∷ text) = cond (eqb b newline) ([] ∷ lines text) (before b (lines text))
 
+-- no byte is a newline
 abbrev pub Line : List ℕ → Type 0
 Line = All (λ b. b ≡ newline → ⊥)
 
+-- no line lacks its newline
 abbrev pub Closed : List ℕ → Type 0
 Closed text = (text ≡ []) ⊎ ((front : List ℕ) × (text ≡ terminated front))
 
+-- this fixes the lines of a text, with no word of how they are found
 pub record Lines-of (text : List ℕ) (ls : List (List ℕ)) : Type 0 where
   -- no line has a newline in it
   pub each : All Line ls
@@ -51,11 +56,15 @@ pub record Lines-of (text : List ℕ) (ls : List (List ℕ)) : Type 0 where
   -- or, where the last line lacks its newline, the text with a newline after it
   pub unclosed : (Closed text → ⊥) → joined terminated ls ≡ terminated text
 
+-- n is the index of the first newline, or the length of the text where there is none
 pub record First-newline (text : List ℕ) (n : ℕ) : Type 0 where
   pub within : n ≤ length text
+  -- no newline stands before n
   pub none : (k : ℕ) → k < n → getD text k 0 ≡ newline → ⊥
+  -- one stands at n, unless the text ends there
   pub here : n < length text → getD text n 0 ≡ newline
 
+-- the text begins with this line, and the rest follows
 pub record Splits (text line rest : List ℕ) : Type 0 where
   -- the line has no newline in it
   pub one : Line line

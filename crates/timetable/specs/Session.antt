@@ -24,10 +24,11 @@ use Rattle.timetable.specs.Lines.{terminated, lines}
 use Rattle.timetable.specs.declared.command.Command.{Command}
 use Rattle.timetable.specs.declared.command.Command.the-variants.{Root}
 
+-- 16 KiB
 abbrev pub limit : ℕ
 limit = 16384
 
--- a map of two pairs: no entries under "e", and no link under "l"
+-- no entries under "e", and nothing under "l"
 abbrev pub empty-node : List ℕ
 empty-node = 0xA2 ∷ 0x61 ∷ 0x65 ∷ 0x80 ∷ 0x61 ∷ 0x6C ∷ 0xF6 ∷ []
 
@@ -36,6 +37,7 @@ abbrev pub reply : Kind → ℕ → Option Command → List ℕ
 reply κ number (Some Root) = terminated (hex (κ .hash empty-node))
 reply κ number None = terminated (codes "bad " ++ decimal number)
 
+-- a line that is a command is answered as that command
 unfoldable pub answer : Kind → ℕ → List ℕ → List ℕ
 answer κ number line = reply κ number (command-of line)
 

@@ -1,8 +1,17 @@
-// Answers the lines of standard input, one by one, on standard output.
+// The program: answers the lines of standard input, one by one, on standard output.
+//
+//   command   the commands, as lines of text
+//   lines     a text cut into lines
+//   session   the answers to a whole input
 ghost use Prim.Native.Nat.{_<_, _≤_};
 ghost use lib.ListN.{length};
 ghost use Rattle.std.specs.Vec.{made};
 ghost use Rattle.timetable.specs.Session.{limit};
+
+mod command;
+mod lines;
+mod session;
+
 use digest::Fold;
 use digest::FoldDigestKind;
 use session::LIMIT;
@@ -10,10 +19,6 @@ use session::answers;
 use std::io;
 use std::io::Read;
 use std::io::Write;
-
-mod command;
-mod lines;
-mod session;
 
 // Room for one byte more than a session takes.
 const BUFFER: usize = LIMIT + 1;

@@ -11,7 +11,7 @@ use digest::DigestKind;
 use std::alloc::AllocError;
 use std::alloc::Global;
 
-// The most bytes that a session reads.
+// The most bytes that a session takes.
 pub const LIMIT: usize = 16_384;
 
 // The node of the map that holds nothing.
