@@ -1,0 +1,37 @@
+// The messages and keys.
+ghost use mathlib.Core.Path.{_≡_};
+ghost use Rattle.std.specs.Of.Vec.{vec-items};
+ghost use Rattle.std.specs.Vec.{made};
+ghost use Rattle.vectors.specs.Messages.{counted-bytes};
+use std::alloc::AllocError;
+use std::alloc::Global;
+
+// The messages of the published examples of SHA-256, but for a million of the letter a.
+pub const PUBLISHED: [&str; 4] = [
+    "",
+    "abc",
+    "abcdbcdecdefdefgefghfghighijhijkijkljklmklmnlmnomnopnopq",
+    "abcdefghbcdefghicdefghijdefghijkefghijklfghijklmghijklmnhijklmnoijklmnopjklmnopqklmnopqrlmnopqrsmnopqrstnopqrstu",
+];
+
+// Keys whose layers under SHA-256 are known from the interoperability tests of the AT Protocol.
+pub const KEYS: [&str; 7] = [
+    "asdf",
+    "blue",
+    "88bfafc7",
+    "2a92d355",
+    "884976f5",
+    "app.bsky.feed.post/454397e440ec",
+    "app.bsky.feed.post/9adeb165882c",
+];
+
+// The bytes 0 to 250, again and again, `len` of them.
+pub fn counted(heap: Global, len: usize) -> Result<Vec<u8>, AllocError>
+    ensures { λ r. ⌜ made r (λ v. vec-items v ≡ counted-bytes len) ⌝ }
+{
+    let mut bytes = Vec::new(heap);
+    for i in 0..len {
+        bytes.push((i % 251) as u8)?;
+    }
+    Ok(bytes)
+}
