@@ -6,6 +6,9 @@ ghost use lib.ListN.{length, take};
 ghost use Rattle.sha256.specs.Padding.{Least-zeros, padding};
 use crate::buffer::put;
 
+// Where the length begins in the last block.
+const LENGTH_AT: usize = 56;
+
 // One block or two, at the start of room for two.
 #[derive(Clone, Copy)]
 pub(crate) struct Tail {
@@ -23,7 +26,7 @@ pub(crate) fn pad(rest: &[u8], len: usize) -> Tail
     let mut bytes = [0u8; 128];
     put(&mut bytes, 0, rest);
     put(&mut bytes, rest.len(), &[0x80]);
-    let end = if rest.len() < 56 { 64 } else { 128 };
+    let end = if rest.len() < LENGTH_AT { 64 } else { 128 };
     let bits = (len as u64).wrapping_mul(8);
     put(&mut bytes, end - 8, &bits.to_be_bytes());
     Tail { bytes, len: end }

@@ -12,10 +12,10 @@ mod command;
 mod lines;
 mod session;
 
-use digest::Fold;
-use digest::FoldDigestKind;
 use session::LIMIT;
 use session::answers;
+use sha256::Sha256;
+use sha256::Sha256DigestKind;
 use std::io;
 use std::io::Read;
 use std::io::Write;
@@ -26,7 +26,7 @@ const BUFFER: usize = LIMIT + 1;
 fn main(rt: LibcRuntime) -> io::Result<()> {
     let mut buffer = [0u8; BUFFER];
     let count = read_input(&mut rt.stdin(), &mut buffer)?;
-    let out = answers::<Fold>(rt.alloc(), &buffer[0..count])?;
+    let out = answers::<Sha256>(rt.alloc(), &buffer[0..count])?;
     rt.stdout().write_all(&out)
 }
 

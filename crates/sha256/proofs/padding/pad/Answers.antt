@@ -6,16 +6,16 @@ use lib.ListN.{length, take}
 use Rattle.sha256.specs.Padding.{padding, length-bytes, zeros}
 use Rattle.sha256.proofs.Pads.{padded-rest}
 use Rattle.sha256.proofs.padding.pad.Needs as need
-use Rattle.sha256.proofs.padding.pad.Needs.{then-rest-lt56, else-rest-lt56}
+use Rattle.sha256.proofs.padding.pad.Needs.{then-rest-lt-LENGTH-AT, else-rest-lt-LENGTH-AT}
 
 pub returns : need.returns
 unfolding padding
 returns c =
     let rest = c .args .rest .now in
     let len = c .args .len in
-    let end = c .if-rest-lt56 .end in
+    let end = c .if-rest-lt-LENGTH-AT .end in
     let ends : end ≡ length rest + 1 + zeros len + 8
-    = elim (c .if-rest-lt56 .came) [ then-rest-lt56 w ↦ omega (arith, w .end-is, w .if-rest-lt56 .taken) | else-rest-lt56 w ↦ omega (arith, w .end-is, w .if-rest-lt56 .left) ] in
+    = elim (c .if-rest-lt-LENGTH-AT .came) [ then-rest-lt-LENGTH-AT w ↦ omega (arith, w .end-is, w .if-rest-lt-LENGTH-AT .taken) | else-rest-lt-LENGTH-AT w ↦ omega (arith, w .end-is, w .if-rest-lt-LENGTH-AT .left) ] in
     record {
       bytes = ap (take end) (c .put-3 .ensures ∙ rw (c .put-2 .ensures, c .put .ensures, c .to-be-bytes .ensures))
           ∙ padded-rest rest (length-bytes len) 128 end (zeros len) refl ends (omega arith);
