@@ -1,5 +1,5 @@
 -- Leading zeros of a word, and of the bytes that make it. Assumes nothing.
-use mathlib.Core.Path.{_≡_, refl, sym, ap, subst, _∙_}
+use mathlib.Core.Path.{_≡_, refl, sym, ap, _∙_}
 use mathlib.Core.List.{List, [], _∷_, _++_}
 use Prim.Native.Nat.{ℕ, zero, suc, _+_, _*_, _^_, _/_, _<_, _≤_}
 use native.Mathlib.Nat.{zero-mul, suc-mul, add-comm, mul-le-mul-right, add-mul, pow-suc, mul-assoc}

@@ -1,6 +1,6 @@
 -- The blocks of a padded message: those of the message, and those of its padded rest. Assumes nothing.
-use mathlib.Core.Path.{_≡_, refl, sym, ap, ap₂, _∙_}
-use mathlib.Core.List.{List, [], _∷_, _++_}
+use mathlib.Core.Path.{_≡_, refl, ap}
+use mathlib.Core.List.{List, _∷_, _++_}
 use Prim.Native.Nat.{ℕ, zero, suc, _+_, _-_, _*_, _/_, _≤_}
 use native.Mathlib.Nat.{zero-mul, suc-mul, add-comm, suc-add, zero-add}
 use native.Mathlib.Omega.{arith}

@@ -1,9 +1,9 @@
 -- Making the schedule in place: the words so far, extended, are the schedule at every step. Assumes nothing.
-use mathlib.Core.Path.{_≡_, refl, sym, ap, _∙_}
+use mathlib.Core.Path.{_≡_, sym, ap, _∙_}
 use mathlib.Core.List.{List, [], _∷_, _++_}
 use Prim.Native.Nat.{ℕ, suc, _+_, _-_, _<_, _≤_}
 use native.Mathlib.Omega.{arith}
-use lib.ListN.{length, getD, set, take}
+use lib.ListN.{length, set, take}
 use Rattle.std.proofs.shelf.Lists.{getD-take, length-take-le, take-all, take-more-set}
 use Rattle.sha256.specs.Rounds.{next-word, extended}
 

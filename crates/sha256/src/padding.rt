@@ -3,7 +3,7 @@ ghost use mathlib.Core.Path.{_≡_};
 ghost use mathlib.Core.List.{_++_};
 ghost use Prim.Native.Nat.{_%_, _≤_};
 ghost use lib.ListN.{length, take};
-ghost use Rattle.sha256.specs.Padding.{Least-zeros, padding};
+ghost use Rattle.sha256.specs.Padding.{Least-zeros, length-bytes, padding};
 use crate::buffer::put;
 
 // Where the length begins in the last block.
@@ -27,7 +27,13 @@ pub(crate) fn pad(rest: &[u8], len: usize) -> Tail
     put(&mut bytes, 0, rest);
     put(&mut bytes, rest.len(), &[0x80]);
     let end = if rest.len() < LENGTH_AT { 64 } else { 128 };
-    let bits = (len as u64).wrapping_mul(8);
-    put(&mut bytes, end - 8, &bits.to_be_bytes());
+    put(&mut bytes, end - 8, &length_bytes(len));
     Tail { bytes, len: end }
+}
+
+// The length of a message in bits, modulo 2^64, high byte first.
+fn length_bytes(len: usize) -> [u8; 8]
+    ensures { λ r. ⌜ r ≡ length-bytes len ⌝ }
+{
+    (len as u64).wrapping_mul(8).to_be_bytes()
 }

@@ -1,9 +1,9 @@
 -- The words made so far are those of the chunks so far.
 use mathlib.Core.Path.{_≡_, refl, sym, ap, _∙_}
-use mathlib.Core.List.{List, [], _∷_, map, _++_}
-use Prim.Native.Nat.{ℕ, _≤_, _/_}
+use mathlib.Core.List.{[], map}
+use Prim.Native.Nat.{_/_}
 use native.Mathlib.Omega.{arith}
-use lib.ListN.{length, take}
+use lib.ListN.{length}
 use Rattle.std.proofs.shelf.Lists.{length-set, take-more-set, map-more, take-all}
 use Rattle.std.specs.Vectors.{chunked}
 use Rattle.sha256.specs.Rounds.{message-words}

@@ -2,7 +2,7 @@
 use mathlib.Core.Path.{_≡_, sym, ap, _∙_}
 use Prim.Native.Nat.{_+_, _-_, _*_}
 use native.Mathlib.Omega.{arith}
-use lib.ListN.{length, replicate, set, take}
+use lib.ListN.{length, replicate, set}
 use Rattle.std.proofs.shelf.Lists.{length-append, length-set, take-at}
 use Rattle.sha256.specs.Rounds.{extended, schedule}
 use Rattle.sha256.proofs.Schedules.{extended-more, extended-all}

@@ -1,9 +1,8 @@
 -- A part overwritten is what stands before it, the new bytes, and what stands after.
-use mathlib.Core.Path.{_≡_, ap}
-use mathlib.Core.List.{_++_}
+use mathlib.Core.Path.{_≡_}
 use Prim.Native.Nat.{_+_, _-_}
 use native.Mathlib.Omega.{arith}
-use lib.ListN.{length, take, drop}
+use lib.ListN.{length}
 use Rattle.std.proofs.shelf.Lists.{drop-drop}
 use Rattle.sha256.specs.Buffer.{put}
 use Rattle.sha256.proofs.buffer.put.Needs as need

@@ -17,7 +17,7 @@ returns c =
     let ends : end ≡ length rest + 1 + zeros len + 8
     = elim (c .if-rest-lt-LENGTH-AT .came) [ then-rest-lt-LENGTH-AT w ↦ omega (arith, w .end-is, w .if-rest-lt-LENGTH-AT .taken) | else-rest-lt-LENGTH-AT w ↦ omega (arith, w .end-is, w .if-rest-lt-LENGTH-AT .left) ] in
     record {
-      bytes = ap (take end) (c .put-3 .ensures ∙ rw (c .put-2 .ensures, c .put .ensures, c .to-be-bytes .ensures))
+      bytes = ap (take end) (c .put-3 .ensures ∙ rw (c .put-2 .ensures, c .put .ensures, c .length-bytes .ensures))
           ∙ padded-rest rest (length-bytes len) 128 end (zeros len) refl ends (omega arith);
       shortest = record { reaches = omega arith; least = λ k e. omega arith };
       bound = omega arith;

@@ -5,7 +5,7 @@ use Prim.Native.Nat.{_*_, _/_, _-_}
 use native.Mathlib.Nat.{sub-zero}
 use lib.ListN.{length, take, drop}
 use Rattle.std.specs.Vectors.{chunked}
-use Rattle.sha256.specs.Padding.{blocks, padded, padding}
+use Rattle.sha256.specs.Padding.{blocks, padding}
 use Rattle.sha256.specs.Rounds.{compress-all}
 use Rattle.sha256.specs.Sha256.{sha256-hash, start, state-bytes}
 use Rattle.sha256.proofs.Chunks.{blocks-padded}

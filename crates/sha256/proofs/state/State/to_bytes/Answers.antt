@@ -1,11 +1,11 @@
 -- The bytes put so far and those of the words left are the bytes of all words.
-use mathlib.Core.Path.{_≡_, ap, _∙_}
-use Prim.Native.Nat.{_+_, _*_}
+use mathlib.Core.Path.{ap, _∙_}
+use Prim.Native.Nat.{_*_}
 use native.Mathlib.Omega.{arith}
 use lib.ListN.{length}
 use Rattle.sha256.specs.Buffer.{put}
 use Rattle.sha256.specs.Sha256.{state-bytes, state-words}
-use Rattle.sha256.proofs.Puts.{Words-put, words-put-more, words-put-all, length-put}
+use Rattle.sha256.proofs.Puts.{words-put-more, words-put-all, length-put}
 use Rattle.sha256.proofs.state.State.to_bytes.Needs as need
 
 pub loop-i-again : need.loop-i-again
