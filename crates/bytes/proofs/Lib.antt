@@ -1,0 +1,4 @@
+pub mod Walks
+pub mod Fronts
+pub mod Orders
+pub mod Keys

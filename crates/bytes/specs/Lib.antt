@@ -1,0 +1,4 @@
+pub mod Order
+pub mod Shared
+pub mod Size
+pub mod Key
