@@ -1,0 +1,4 @@
+pub mod Prefixes
+pub mod Sizes
+pub mod Forms
+pub mod Decodes

@@ -1,0 +1,30 @@
+-- What the encoding of nodes promises.
+--
+--   Encodes      s is the encoding of a well-formed node
+--   Encodings    the laws of encoding and decoding
+--   Fits         every node fits a block
+--
+-- Assumes nothing.
+use mathlib.Core.Path.{_≡_}
+use mathlib.Core.List.{List}
+use Prim.Native.Nat.{ℕ, _≤_}
+use lib.ListN.{length}
+use Rattle.std.specs.declared.option.Option.the-variants.{Some}
+use Rattle.node.specs.Decode.{decode}
+use Rattle.node.specs.Format.{Node, encode}
+use Rattle.node.specs.WellFormed.{WellFormed}
+
+pub record Encodes (c : ℕ) (s : List ℕ) (n : Node) : Type 0 where
+  pub formed : WellFormed n
+  pub is : s ≡ encode c n
+
+pub record Encodings (c : ℕ) : Type 0 where
+  -- a node has one encoding, and an encoding one node
+  pub injective : (m n : Node) → WellFormed m → WellFormed n → encode c m ≡ encode c n → m ≡ n
+  -- what is decoded encodes to the same bytes
+  pub encodes : (s : List ℕ) (n : Node) → decode c s ≡ Some n → Encodes c s n
+  -- what is encoded decodes to the same node
+  pub decodes : (s : List ℕ) (n : Node) → Encodes c s n → decode c s ≡ Some n
+
+abbrev pub Fits : ℕ → Type 0
+Fits limit = (c : ℕ) (n : Node) → WellFormed n → length (encode c n) ≤ limit

@@ -1,0 +1,55 @@
+-- Which nodes there are.
+--
+--   Digest        32 bytes
+--   Link          a digest, or none
+--   EntryFormed   an entry with a key of 1 to 64 bytes
+--   WellFormed    a node of at most 64 entries
+--   well-formed   the same as a test
+--
+-- That keys rise is no matter of form. Assumes nothing.
+use mathlib.Core.Path.{_≡_}
+use mathlib.Core.Bool.{Bool, true, _&&_}
+use mathlib.Core.List.{List, [], _∷_}
+use Prim.Native.Nat.{ℕ, _≤_}
+use lib.Dec.{eqb, leb}
+use lib.ListN.{length}
+use Rattle.std.specs.declared.option.Option.{Option}
+use Rattle.std.specs.declared.option.Option.the-variants.{Some, None}
+use Rattle.std.specs.shelf.Lists.{All}
+use Rattle.node.specs.Format.{Entry, Node}
+
+abbrev pub Digest : List ℕ → Type 0
+Digest d = length d ≡ 32
+
+abbrev pub Link : Option (List ℕ) → Type 0
+Link None = Unit {0}
+Link (Some d) = Digest d
+
+pub record EntryFormed (e : Entry) : Type 0 where
+  pub some : 1 ≤ length (e .key)
+  pub short : length (e .key) ≤ 64
+  pub value : Digest (e .value)
+  pub after : Link (e .after)
+
+pub record WellFormed (n : Node) : Type 0 where
+  pub few : length (n .entries) ≤ 64
+  pub each : All EntryFormed (n .entries)
+  pub first : Link (n .first)
+
+abbrev pub is-digest : List ℕ → Bool
+is-digest d = eqb (length d) 32
+
+abbrev pub is-link : Option (List ℕ) → Bool
+is-link None = true
+is-link (Some d) = is-digest d
+
+abbrev pub entry-formed : Entry → Bool
+entry-formed e = leb 1 (length (e .key)) && (leb (length (e .key)) 64 && (is-digest (e .value) && is-link (e .after)))
+
+-- what a test says of each
+abbrev pub all : {X : Type 0} → (X → Bool) → List X → Bool
+all test [] = true
+all test (x ∷ xs) = test x && all test xs
+
+abbrev pub well-formed : Node → Bool
+well-formed n = leb (length (n .entries)) 64 && (all entry-formed (n .entries) && is-link (n .first))
