@@ -1,0 +1,5 @@
+pub mod Walks
+pub mod Parts
+pub mod Rests
+pub mod Passages
+pub mod Finds
