@@ -8,6 +8,8 @@
 --   entry-parts     an entry from its parts
 --   entry           an entry after the key before it
 --   entries         entries, one after the other
+--   opening         a node up to its first entry
+--   closing         a node behind its last entry
 --   encode          the node
 --
 -- A byte string is a list of numbers, and c is the code byte of the digest kind. Assumes nothing.
@@ -60,8 +62,14 @@ abbrev pub entries : ℕ → List ℕ → List Entry → List ℕ
 entries c before [] = []
 entries c before (e ∷ es) = entry c before e ++ entries c (e .key) es
 
--- a map of two: "e" the array of entries, "l" the first link; before the first entry there is no key to share with
+-- a map of two, and "e" with the head of the array
+abbrev pub opening : ℕ → List ℕ
+opening count = 0xA2 ∷ (0x61 ∷ (0x65 ∷ head 0x80 count))
+
+-- "l" with the first link
+abbrev pub closing : ℕ → Option (List ℕ) → List ℕ
+closing c first = 0x61 ∷ (0x6C ∷ link-or-null c first)
+
+-- before the first entry there is no key to share with
 unfoldable pub encode : ℕ → Node → List ℕ
-encode c n =
-    0xA2 ∷ (0x61 ∷ (0x65 ∷ (head 0x80 (length (n .entries)) ++ (entries c [] (n .entries)
-    ++ (0x61 ∷ (0x6C ∷ link-or-null c (n .first)))))))
+encode c n = opening (length (n .entries)) ++ (entries c [] (n .entries) ++ closing c (n .first))

@@ -8,14 +8,14 @@ use Rattle.std.specs.declared.option.Option.{Option}
 use Rattle.std.specs.declared.option.Option.the-variants.{None}
 use Rattle.std.proofs.shelf.Lists.{drop-all, length-drop, nil-from-length}
 use Rattle.node.specs.Format as format
-use Rattle.node.specs.Format.{Node, encode, entries, head, link-or-null}
+use Rattle.node.specs.Format.{Node, closing, encode, entries, head, link-or-null}
 use Rattle.node.specs.Laws.{Encodes}
-use Rattle.node.specs.Values.{entry-of}
+use Rattle.node.specs.Values.{entry-of, key-before}
 use Rattle.node.specs.WellFormed.{Link}
 use Rattle.node.specs.declared.entry.Entry.{Entry}
 use Rattle.node.proofs.Prefixes.{head-one}
 use Rattle.node_reader.specs.Entries.{No-link-or-null, Reads-link-or-null}
-use Rattle.node_reader.specs.Nodes.{Closes, Ends, Finishes, Opens, Passes, Rest, Steps, behind, end-of, last-bytes, with-entries}
+use Rattle.node_reader.specs.Nodes.{Closes, Ends, Finishes, Opens, Passes, Rest, Steps, behind, with-entries}
 use Rattle.node_reader.specs.Stands.{Absent, Stands}
 use Rattle.node_reader.specs.declared.cursor.Cursor.{Cursor}
 use Rattle.node_reader.proofs.Parts.{joins, past-bytes, past-link}
@@ -55,7 +55,7 @@ passes-ends c s start cursor passes some ends n rest = go (here .0 .entries) ref
 pub passes-all : (c : ℕ) (s : List ℕ) (start cursor : Cursor) → Passes c s start cursor → cursor .left ≤ 0 → Closes c s start (cursor .at)
 passes-all c s start cursor passes none = record { passed = passes .passed; down = down; up = up }
   where
-    down : (n : Node) → Rest c s start n → (n .entries ≡ passes .passed) × Link (n .first) × (drop (cursor .at) s ≡ end-of c (n .first))
+    down : (n : Node) → Rest c s start n → (n .entries ≡ passes .passed) × Link (n .first) × (drop (cursor .at) s ≡ closing c (n .first))
     down n rest =
         let here = passes .down n rest in
         let m = here .0 in
@@ -63,10 +63,10 @@ passes-all c s start cursor passes none = record { passed = passes .passed; down
         let its-first : n .first ≡ m .first = ap (λ (z : Node). z .first) (here .1) in (
           ap (λ (z : Node). z .entries) (here .1) ∙ ap (λ es. passes .passed ++ es) empty ∙ append-nil (passes .passed),
           rest .first,
-          here .2 .is ∙ ap (λ es. entries c (last-bytes (cursor .last)) es ++ end-of c (m .first)) empty ∙ ap (end-of c) (sym its-first),
+          here .2 .is ∙ ap (λ es. entries c (key-before (cursor .last)) es ++ closing c (m .first)) empty ∙ ap (closing c) (sym its-first),
         )
 
-    up : (first : Option (List ℕ)) → Link first → drop (cursor .at) s ≡ end-of c first → Rest c s start (record { first = first; entries = passes .passed })
+    up : (first : Option (List ℕ)) → Link first → drop (cursor .at) s ≡ closing c first → Rest c s start (record { first = first; entries = passes .passed })
     up first formed is =
         let m : Node = record { first = first; entries = [] } in
         let whole : with-entries (passes .passed) m ≡ record { first = first; entries = passes .passed } = λ i. record { first = first; entries = append-nil (passes .passed) i } in
@@ -88,7 +88,7 @@ module _ (c : ℕ) (s : List ℕ) (at link-at : ℕ) (tag : Stands s at (0x61 �
     pub finishes : end ≡ length s → Finishes c s at first
     finishes last = record {
       formed = reads .long;
-      is = joins tag (reads .stands) .is ∙ ap (λ rest. end-of c first ++ rest) (drop-all end s (omega arith)) ∙ append-nil (end-of c first);
+      is = joins tag (reads .stands) .is ∙ ap (λ rest. closing c first ++ rest) (drop-all end s (omega arith)) ∙ append-nil (closing c first);
     }
 
 -- all entries are there, and their end is not

@@ -12,32 +12,28 @@ use Rattle.bytes.specs.Shared.{shared}
 use Rattle.bytes.specs.declared.key.Key.{Key}
 use Rattle.bytes.proofs.Fronts.{shared-left, shared-rebuilds, shared-right}
 use Rattle.node.specs.Format as format
-use Rattle.node.specs.Format.{Node, entries, entry, entry-parts, link-or-null}
-use Rattle.node.specs.Values.{entry-of}
+use Rattle.node.specs.Format.{Node, closing, entries, entry, entry-parts}
+use Rattle.node.specs.Values.{entry-of, key-before}
 use Rattle.node.specs.WellFormed.{EntryFormed, Link}
 use Rattle.node.specs.declared.entry.Entry.{Entry}
 use Rattle.node.proofs.Prefixes.{entry-parts-one}
 use Rattle.node_reader.specs.Entries.{No-entry}
-use Rattle.node_reader.specs.Nodes.{Ends, Extends, Rest, Steps, behind, last-bytes}
+use Rattle.node_reader.specs.Nodes.{Ends, Extends, Rest, Steps, behind}
 use Rattle.node_reader.specs.Stands.{Stands}
 use Rattle.node_reader.specs.declared.cursor.Cursor.{Cursor}
 
--- the end of a node behind its entries
-abbrev tail-of : ℕ → Node → List ℕ
-tail-of c n = 0x61 ∷ (0x6C ∷ link-or-null c (n .first))
-
 -- the first entry by its parts, and what follows it
 first-entry : (c : ℕ) (s : List ℕ) (cursor : Cursor) (e : format.Entry) (n : Node) → Rest c s cursor (behind e n)
-    → (let p = shared (last-bytes (cursor .last)) (e .key) in
-    drop (cursor .at) s ≡ entry-parts c (drop p (e .key)) p (e .after) (e .value) ++ (entries c (e .key) (n .entries) ++ tail-of c n))
-first-entry c s cursor e n rest = rest .is ∙ append-assoc (entry c (last-bytes (cursor .last)) e) (entries c (e .key) (n .entries)) (tail-of c n)
+    → (let p = shared (key-before (cursor .last)) (e .key) in
+    drop (cursor .at) s ≡ entry-parts c (drop p (e .key)) p (e .after) (e .value) ++ (entries c (e .key) (n .entries) ++ closing c (n .first)))
+first-entry c s cursor e n rest = rest .is ∙ append-assoc (entry c (key-before (cursor .last)) e) (entries c (e .key) (n .entries)) (closing c (n .first))
 
 pub no-entry : (c : ℕ) (s : List ℕ) (cursor : Cursor) → No-entry s (cursor .at) c → Ends c s cursor
 no-entry c s cursor none e n rest =
-    let p = shared (last-bytes (cursor .last)) (e .key) in
+    let p = shared (key-before (cursor .last)) (e .key) in
     let formed = rest .each .0 in
     let size = length-drop p (e .key) in
-    let within = shared-right (last-bytes (cursor .last)) (e .key) in
+    let within = shared-right (key-before (cursor .last)) (e .key) in
     none (drop p (e .key)) p (e .after) (e .value) (omega (arith, formed .short)) (omega (arith, formed .short)) (formed .after) (formed .value) _ (first-entry c s cursor e n rest)
 
 -- a key extends the one before it
@@ -58,13 +54,13 @@ extends-key before e formed =
 module _ (c : ℕ) (s : List ℕ) (cursor : Cursor) (r : List ℕ) (p : ℕ) (u : Option (List ℕ)) (v : List ℕ) (end : ℕ)
     (lu : Link u) (lv : length v ≡ 32) (h : Stands s (cursor .at) (entry-parts c r p u v) end) where
   record Found (e : format.Entry) (n : Node) : Type 0 where
-    extends : Extends (last-bytes (cursor .last)) p r
-    is : e ≡ record { key = take p (last-bytes (cursor .last)) ++ r; value = v; after = u }
-    rest : drop end s ≡ entries c (e .key) (n .entries) ++ tail-of c n
+    extends : Extends (key-before (cursor .last)) p r
+    is : e ≡ record { key = take p (key-before (cursor .last)) ++ r; value = v; after = u }
+    rest : drop end s ≡ entries c (e .key) (n .entries) ++ closing c (n .first)
 
   found : (e : format.Entry) (n : Node) → Rest c s cursor (behind e n) → Found e n
   found e n rest =
-      let old = last-bytes (cursor .last) in
+      let old = key-before (cursor .last) in
       let q = shared old (e .key) in
       let formed = rest .each .0 in
       let same = entry-parts-one c r (drop q (e .key)) p q u (e .after) v (e .value) (drop end s) _ lu (formed .after) lv (formed .value) (sym (h .is) ∙ first-entry c s cursor e n rest) in
@@ -75,12 +71,12 @@ module _ (c : ℕ) (s : List ℕ) (cursor : Cursor) (r : List ℕ) (p : ℕ) (u 
         rest = same .end;
       }
 
-  pub not-extended : (Extends (last-bytes (cursor .last)) p r → ⊥) → Ends c s cursor
+  pub not-extended : (Extends (key-before (cursor .last)) p r → ⊥) → Ends c s cursor
   not-extended refused e n rest = refused (found e n rest .extends)
 
   -- the entry by value, and the cursor behind it
-  module _ (some : 0 < cursor .left) (x : Entry) (key : Key) (extends : Extends (last-bytes (cursor .last)) p r)
-      (made : key-bytes key ≡ take p (last-bytes (cursor .last)) ++ r) (is : entry-of x ≡ record { key = key-bytes key; value = v; after = u }) where
+  module _ (some : 0 < cursor .left) (x : Entry) (key : Key) (extends : Extends (key-before (cursor .last)) p r)
+      (made : key-bytes key ≡ take p (key-before (cursor .last)) ++ r) (is : entry-of x ≡ record { key = key-bytes key; value = v; after = u }) where
     abbrev next : Cursor
     next = record { at = end; left = cursor .left - 1; last = Some key }
 
@@ -102,21 +98,21 @@ module _ (c : ℕ) (s : List ℕ) (cursor : Cursor) (r : List ℕ) (p : ℕ) (u 
                 count = omega (arith, here .count);
                 each = here .each .1;
                 first = rest .first;
-                is = f .rest ∙ ap (λ k. entries c k es ++ tail-of c m) its-key;
+                is = f .rest ∙ ap (λ k. entries c k es ++ closing c (m .first)) its-key;
               },
             )
 
     -- the entry that was read is the entry's encoding
-    encoded : entry-parts c r p u v ≡ entry c (last-bytes (cursor .last)) (entry-of x)
+    encoded : entry-parts c r p u v ≡ entry c (key-before (cursor .last)) (entry-of x)
     encoded =
-        let old = last-bytes (cursor .last) in
+        let old = key-before (cursor .last) in
         let size = length-take-le p old (extends .joins .within) in
         let rest-is : drop p (take p old ++ r) ≡ r = drop-at (take p old) r p size in
         sym (ap (entry c old) (is ∙ (λ i. record { key = made i; value = v; after = u })) ∙ rw (extends .longest, rest-is))
 
     formed : EntryFormed (entry-of x)
     formed =
-        let old = last-bytes (cursor .last) in
+        let old = key-before (cursor .last) in
         let size = length-append (take p old) r in
         let front = length-take-le p old (extends .joins .within) in
         let long : length (key-bytes key) ≡ p + length r = ap length made ∙ omega arith in
@@ -129,16 +125,16 @@ module _ (c : ℕ) (s : List ℕ) (cursor : Cursor) (r : List ℕ) (p : ℕ) (u 
 
     step-up : (m : Node) → Rest c s next m → Rest c s cursor (behind (entry-of x) m)
     step-up m rest =
-        let old = last-bytes (cursor .last) in
+        let old = key-before (cursor .last) in
         let its-key : key-bytes key ≡ entry-of x .key = sym (ap (λ (z : format.Entry). z .key) is) in
         record {
           count = omega (arith, rest .count);
           each = (formed, rest .each);
           first = rest .first;
           is =
-              h .is ∙ ap (λ z. entry-parts c r p u v ++ z) (rest .is ∙ ap (λ k. entries c k (m .entries) ++ tail-of c m) its-key)
-              ∙ ap (λ z. z ++ (entries c (entry-of x .key) (m .entries) ++ tail-of c m)) encoded
-              ∙ sym (append-assoc (entry c old (entry-of x)) (entries c (entry-of x .key) (m .entries)) (tail-of c m));
+              h .is ∙ ap (λ z. entry-parts c r p u v ++ z) (rest .is ∙ ap (λ k. entries c k (m .entries) ++ closing c (m .first)) its-key)
+              ∙ ap (λ z. z ++ (entries c (entry-of x .key) (m .entries) ++ closing c (m .first))) encoded
+              ∙ sym (append-assoc (entry c old (entry-of x)) (entries c (entry-of x .key) (m .entries)) (closing c (m .first)));
         }
 
     pub steps : Steps c s cursor x (record { at = end; left = cursor .left - 1; last = Some key })

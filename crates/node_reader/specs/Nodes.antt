@@ -1,6 +1,5 @@
 -- What is left of a node at a cursor.
 --
---   last-bytes   the key before the next entry, none before the first
 --   Rest         the entries to come and the first link, up to the end of the block
 --   Extends      a key that shares so many bytes with the one before it, and no more
 --   Ends         no entry is to come
@@ -12,34 +11,28 @@
 --
 -- c is the code byte of the digest kind. Assumes nothing.
 use mathlib.Core.Path.{_≡_}
-use mathlib.Core.List.{List, [], _∷_, _++_}
+use mathlib.Core.List.{List, _∷_, _++_}
 use Prim.Native.Nat.{ℕ, _+_, _<_}
 use lib.ListN.{length, take, drop}
 use Rattle.std.specs.declared.option.Option.{Option}
-use Rattle.std.specs.declared.option.Option.the-variants.{Some, None}
+use Rattle.std.specs.declared.option.Option.the-variants.{None}
 use Rattle.std.specs.shelf.Lists.{All}
-use Rattle.bytes.specs.Key.{key-bytes}
 use Rattle.bytes.specs.Shared.{shared}
 use Rattle.bytes.specs.Size.{Joins}
-use Rattle.bytes.specs.declared.key.Key.{Key}
-use Rattle.node.specs.Format.{Node, entries, link-or-null}
+use Rattle.node.specs.Format.{Node, closing, entries}
 use Rattle.node.specs.Format as format
 use Rattle.node.specs.Laws.{Encodes}
-use Rattle.node.specs.Values.{entry-of}
+use Rattle.node.specs.Values.{entry-of, key-before}
 use Rattle.node.specs.WellFormed.{EntryFormed, Link}
 use Rattle.node.specs.declared.entry.Entry.{Entry}
 use Rattle.node_reader.specs.declared.cursor.Cursor.{Cursor}
-
-abbrev pub last-bytes : Option Key → List ℕ
-last-bytes None = []
-last-bytes (Some key) = key-bytes key
 
 -- from the cursor on, the rest of the block s is the rest n of a node
 pub record Rest (c : ℕ) (s : List ℕ) (cursor : Cursor) (n : Node) : Type 0 where
   pub count : cursor .left ≡ length (n .entries)
   pub each : All EntryFormed (n .entries)
   pub first : Link (n .first)
-  pub is : drop (cursor .at) s ≡ entries c (last-bytes (cursor .last)) (n .entries) ++ (0x61 ∷ (0x6C ∷ link-or-null c (n .first)))
+  pub is : drop (cursor .at) s ≡ entries c (key-before (cursor .last)) (n .entries) ++ closing c (n .first)
 
 -- the first p bytes of the key before and then the tail are a key, and p is all that the two share
 pub record Extends (before : List ℕ) (p : ℕ) (tail : List ℕ) : Type 0 where
@@ -61,10 +54,6 @@ pub record Steps (c : ℕ) (s : List ℕ) (cursor : Cursor) (e : Entry) (next : 
   -- and what is left behind it, with this entry, is what is left
   pub up : (m : Node) → Rest c s next m → Rest c s cursor (behind (entry-of e) m)
 
--- what stands behind the entries of a node: "l" and the first link
-abbrev pub end-of : ℕ → Option (List ℕ) → List ℕ
-end-of c first = 0x61 ∷ (0x6C ∷ link-or-null c first)
-
 -- some entries, and then what is left
 abbrev pub with-entries : List format.Entry → Node → Node
 with-entries es n = record { first = n .first; entries = es ++ n .entries }
@@ -78,13 +67,13 @@ pub record Passes (c : ℕ) (s : List ℕ) (from to : Cursor) : Type 0 where
 -- from the cursor on there are just these entries, and their end stands at a place
 pub record Closes (c : ℕ) (s : List ℕ) (from : Cursor) (at : ℕ) : Type 0 where
   pub passed : List format.Entry
-  pub down : (n : Node) → Rest c s from n → (n .entries ≡ passed) × Link (n .first) × (drop at s ≡ end-of c (n .first))
-  pub up : (first : Option (List ℕ)) → Link first → drop at s ≡ end-of c first → Rest c s from (record { first = first; entries = passed })
+  pub down : (n : Node) → Rest c s from n → (n .entries ≡ passed) × Link (n .first) × (drop at s ≡ closing c (n .first))
+  pub up : (first : Option (List ℕ)) → Link first → drop at s ≡ closing c first → Rest c s from (record { first = first; entries = passed })
 
 -- the end with this first link stands at a place, and the block ends behind it
 pub record Finishes (c : ℕ) (s : List ℕ) (at : ℕ) (first : Option (List ℕ)) : Type 0 where
   pub formed : Link first
-  pub is : drop at s ≡ end-of c first
+  pub is : drop at s ≡ closing c first
 
 -- the block is the encoding of a node, whose entries begin at the cursor
 pub record Opens (c : ℕ) (s : List ℕ) (start : Cursor) (first : Option (List ℕ)) : Type 0 where

@@ -4,10 +4,10 @@ ghost use mathlib.Core.List.{_++_};
 ghost use lib.ListN.{length, take};
 ghost use Rattle.std.specs.Options.{Cases as BySome};
 ghost use Rattle.bytes.specs.Key.{key-bytes};
-ghost use Rattle.node.specs.Values.{link-of};
+ghost use Rattle.node.specs.Values.{key-before, link-of};
 ghost use Rattle.node.specs.WellFormed.{Link};
 ghost use Rattle.node_reader.specs.Entries.{lent};
-ghost use Rattle.node_reader.specs.Nodes.{Ends, Extends, Steps, last-bytes};
+ghost use Rattle.node_reader.specs.Nodes.{Ends, Extends, Steps};
 use crate::cursor::Cursor;
 use crate::cursor::Step;
 use crate::entry::read_parts;
@@ -44,7 +44,7 @@ pub(crate) fn step(block: &[u8], code: u8, cursor: Cursor) -> Option<Step>
 
 // The key that shares `shared` bytes, and no more, with the key before it and goes on with `rest`.
 fn next_key(last: Option<Key>, shared: usize, rest: &[u8]) -> Option<Key>
-    ensures { λ r. ⌜ BySome r (Extends (last-bytes last) shared (now (rest .entry)) → ⊥) (λ key. Extends (last-bytes last) shared (now (rest .entry)) × (key-bytes key ≡ take shared (last-bytes last) ++ now (rest .entry))) ⌝ }
+    ensures { λ r. ⌜ BySome r (Extends (key-before last) shared (now (rest .entry)) → ⊥) (λ key. Extends (key-before last) shared (now (rest .entry)) × (key-bytes key ≡ take shared (key-before last) ++ now (rest .entry))) ⌝ }
 {
     let Some(before) = last else {
         if shared > 0 {

@@ -7,9 +7,10 @@ use lib.ListN.{length, take, drop}
 use Rattle.std.specs.declared.option.Option.{Option}
 use Rattle.std.proofs.shelf.Lists.{append-assoc, append-nil, length-append, take-rest}
 use Rattle.bytes.specs.Shared.{shared}
-use Rattle.node.specs.Format.{Entry, entry-parts, entry, entries, encode}
+use Rattle.node.specs.Values.{key-before}
+use Rattle.node.specs.Format.{Entry, closing, encode, entries, entry, entry-parts, opening}
 use Rattle.node_writer.specs.Put.{Puts}
-use Rattle.node_writer.specs.Written.{key-before, last-key, opening, closing, Written}
+use Rattle.node_writer.specs.Written.{last-key, Written}
 use Rattle.node_writer.specs.declared.writer.NodeWriter.{NodeWriter}
 use Rattle.node_writer.proofs.Puts.{take-puts}
 

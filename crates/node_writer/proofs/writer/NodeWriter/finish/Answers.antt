@@ -1,9 +1,8 @@
 -- The closing of a node.
 use mathlib.Core.Path.{sym, ap}
 use native.Mathlib.Omega.{arith}
-use Rattle.node.specs.Format.{link-or-null}
+use Rattle.node.specs.Format.{closing, link-or-null}
 use Rattle.node.specs.Values.{link-of}
-use Rattle.node_writer.specs.Written.{closing}
 use Rattle.node_writer.proofs.Puts.{then, puts-as, puts-kept}
 use Rattle.node_writer.proofs.Writes.{written-all}
 use Rattle.node_writer.proofs.writer.NodeWriter.finish.Needs as need
