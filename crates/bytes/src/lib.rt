@@ -5,9 +5,9 @@
 //   shared_len   how many bytes two byte strings share at the front
 mod key;
 mod order;
-mod shared;
+mod prefix;
 
 pub use key::Key;
 pub use key::KeyPartialEq;
 pub use order::compare;
-pub use shared::shared_len;
+pub use prefix::shared_len;

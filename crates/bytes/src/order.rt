@@ -3,7 +3,7 @@ ghost use mathlib.Core.Path.{_≡_};
 ghost use mathlib.Core.Bool.{true};
 ghost use Rattle.std.specs.Orderings.{Ranked};
 ghost use Rattle.bytes.specs.Order.{before, Strict-total};
-use crate::shared::shared_len;
+use crate::prefix::shared_len;
 use std::cmp::Ordering;
 
 // Which of two byte strings comes first. Bytes are compared one by one; a string that begins another comes first.

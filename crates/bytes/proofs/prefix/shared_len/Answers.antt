@@ -4,7 +4,7 @@ use native.Mathlib.Omega.{arith}
 use Rattle.bytes.specs.Shared.{shared}
 use Rattle.bytes.proofs.Fronts.{shared-none, longest-shared}
 use Rattle.bytes.proofs.Walks.{walk}
-use Rattle.bytes.proofs.shared.shared_len.Needs as need
+use Rattle.bytes.proofs.prefix.shared_len.Needs as need
 
 pub loop-n-again : need.loop-n-again
 loop-n-again c = grind (arith, walk)
