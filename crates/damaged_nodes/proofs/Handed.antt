@@ -16,7 +16,7 @@ use Rattle.node.specs.Format.{Node, encode}
 use Rattle.node.specs.Format as format
 use Rattle.node.specs.Values.{entry-of}
 use Rattle.node.specs.declared.entry.Entry.{Entry}
-use Rattle.node_reader.specs.Nodes.{Rest, Ends, Steps, behind}
+use Rattle.node_reader.specs.Nodes.{Rest, Ends, Steps, with-entry}
 use Rattle.node_reader.specs.Reader.{Of-node, Reads, start-of}
 use Rattle.node_reader.specs.declared.cursor.Cursor.{Cursor}
 use Rattle.node_reader.specs.declared.reader.NodeReader.{NodeReader}

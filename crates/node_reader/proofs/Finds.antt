@@ -17,7 +17,7 @@ use Rattle.node.specs.Values.{entry-of}
 use Rattle.node.specs.declared.entry.Entry.{Entry}
 use Rattle.bytes.specs.Key.{key-bytes}
 use Rattle.node_reader.specs.Find.{moved, place}
-use Rattle.node_reader.specs.Nodes.{Ends, Rest, Steps, behind}
+use Rattle.node_reader.specs.Nodes.{Ends, Rest, Steps, with-entry}
 use Rattle.node_reader.specs.Reader.{Of-node, start-of}
 use Rattle.node_reader.specs.declared.cursor.Cursor.{Cursor}
 use Rattle.node_reader.specs.declared.reader.NodeReader.{NodeReader}
@@ -50,7 +50,7 @@ module _ (r : NodeReader) (key : List ℕ) (cursor : Cursor) (passed : ℕ) (sou
       go [] none = absurd (omega (arith, here .1 .count, ap length none))
       go (e ∷ es) begins =
           let m : Node = record { first = here .0 .first; entries = es } in
-          let whole : here .0 ≡ behind e m = λ i. record { first = here .0 .first; entries = begins i } in
+          let whole : here .0 ≡ with-entry e m = λ i. record { first = here .0 .first; entries = begins i } in
           absurd (ends e m (subst (Rest (r .code) (r .block .now) cursor) whole (here .1)))
 
   pub sought-all : cursor .left ≤ 0 → (n : Node) → Of-node r n → None ≡ place key (n .entries)

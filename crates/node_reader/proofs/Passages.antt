@@ -15,7 +15,7 @@ use Rattle.node.specs.WellFormed.{Link}
 use Rattle.node.specs.declared.entry.Entry.{Entry}
 use Rattle.node.proofs.Prefixes.{head-one}
 use Rattle.node_reader.specs.Entries.{No-link-or-null, Reads-link-or-null}
-use Rattle.node_reader.specs.Nodes.{Closes, Ends, Finishes, Opens, Passes, Rest, Steps, behind, with-entries}
+use Rattle.node_reader.specs.Nodes.{Closes, Ends, Finishes, Opens, Passes, Rest, Steps, with-entry, with-entries}
 use Rattle.node_reader.specs.Stands.{Absent, Stands}
 use Rattle.node_reader.specs.declared.cursor.Cursor.{Cursor}
 use Rattle.node_reader.proofs.Parts.{joins, past-bytes, past-link}
@@ -26,7 +26,7 @@ passes-none c s start = record { passed = []; down = λ n rest. (n, refl, rest);
 pub passes-more : (c : ℕ) (s : List ℕ) (start cursor next : Cursor) (e : Entry) → Passes c s start cursor → Steps c s cursor e next → Passes c s start next
 passes-more c s start cursor next e passes step =
     let done = passes .passed in
-    let more : (m : Node) → with-entries done (behind (entry-of e) m) ≡ with-entries (done ++ (entry-of e ∷ [])) m
+    let more : (m : Node) → with-entries done (with-entry (entry-of e) m) ≡ with-entries (done ++ (entry-of e ∷ [])) m
     = λ m. λ i. record { first = m .first; entries = sym (append-assoc done (entry-of e ∷ []) (m .entries)) i } in
     record {
       passed = done ++ (entry-of e ∷ []);
@@ -34,7 +34,7 @@ passes-more c s start cursor next e passes step =
           let here = passes .down n rest in
           let on = step .down (here .0) (here .2) in
           (on .0, here .1 ∙ ap (with-entries done) (on .1) ∙ more (on .0), on .2);
-      up = λ m rest. subst (Rest c s start) (more m) (passes .up (behind (entry-of e) m) (step .up m rest));
+      up = λ m rest. subst (Rest c s start) (more m) (passes .up (with-entry (entry-of e) m) (step .up m rest));
     }
 
 -- no entry, though one is to come
@@ -48,7 +48,7 @@ passes-ends c s start cursor passes some ends n rest = go (here .0 .entries) ref
     go [] none = omega (arith, here .2 .count, ap length none)
     go (e ∷ es) begins =
         let m : Node = record { first = here .0 .first; entries = es } in
-        let whole : here .0 ≡ behind e m = λ i. record { first = here .0 .first; entries = begins i } in
+        let whole : here .0 ≡ with-entry e m = λ i. record { first = here .0 .first; entries = begins i } in
         ends e m (subst (Rest c s cursor) whole (here .2))
 
 -- none is to come

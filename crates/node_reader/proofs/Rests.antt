@@ -18,12 +18,12 @@ use Rattle.node.specs.WellFormed.{EntryFormed, Link}
 use Rattle.node.specs.declared.entry.Entry.{Entry}
 use Rattle.node.proofs.Prefixes.{entry-parts-one}
 use Rattle.node_reader.specs.Entries.{No-entry}
-use Rattle.node_reader.specs.Nodes.{Ends, Extends, Rest, Steps, behind}
+use Rattle.node_reader.specs.Nodes.{Ends, Extends, Rest, Steps, with-entry}
 use Rattle.node_reader.specs.Stands.{Stands}
 use Rattle.node_reader.specs.declared.cursor.Cursor.{Cursor}
 
 -- the first entry by its parts, and what follows it
-first-entry : (c : ℕ) (s : List ℕ) (cursor : Cursor) (e : format.Entry) (n : Node) → Rest c s cursor (behind e n)
+first-entry : (c : ℕ) (s : List ℕ) (cursor : Cursor) (e : format.Entry) (n : Node) → Rest c s cursor (with-entry e n)
     → (let p = shared (key-before (cursor .last)) (e .key) in
     drop (cursor .at) s ≡ entry-parts c (drop p (e .key)) p (e .after) (e .value) ++ (entries c (e .key) (n .entries) ++ closing c (n .first)))
 first-entry c s cursor e n rest = rest .is ∙ append-assoc (entry c (key-before (cursor .last)) e) (entries c (e .key) (n .entries)) (closing c (n .first))
@@ -58,7 +58,7 @@ module _ (c : ℕ) (s : List ℕ) (cursor : Cursor) (r : List ℕ) (p : ℕ) (u 
     is : e ≡ record { key = take p (key-before (cursor .last)) ++ r; value = v; after = u }
     rest : drop end s ≡ entries c (e .key) (n .entries) ++ closing c (n .first)
 
-  found : (e : format.Entry) (n : Node) → Rest c s cursor (behind e n) → Found e n
+  found : (e : format.Entry) (n : Node) → Rest c s cursor (with-entry e n) → Found e n
   found e n rest =
       let old = key-before (cursor .last) in
       let q = shared old (e .key) in
@@ -80,20 +80,20 @@ module _ (c : ℕ) (s : List ℕ) (cursor : Cursor) (r : List ℕ) (p : ℕ) (u 
     abbrev next : Cursor
     next = record { at = end; left = cursor .left - 1; last = Some key }
 
-    step-down : (n : Node) → Rest c s cursor n → (m : Node) × (n ≡ behind (entry-of x) m) × Rest c s next m
+    step-down : (n : Node) → Rest c s cursor n → (m : Node) × (n ≡ with-entry (entry-of x) m) × Rest c s next m
     step-down n rest = go (n .entries) refl
       where
-        go : (es : List format.Entry) → n .entries ≡ es → (m : Node) × (n ≡ behind (entry-of x) m) × Rest c s next m
+        go : (es : List format.Entry) → n .entries ≡ es → (m : Node) × (n ≡ with-entry (entry-of x) m) × Rest c s next m
         go [] none = absurd (omega (arith, rest .count, ap length none))
         go (e ∷ es) begins =
             let m : Node = record { first = n .first; entries = es } in
-            let whole : n ≡ behind e m = λ i. record { first = n .first; entries = begins i } in
+            let whole : n ≡ with-entry e m = λ i. record { first = n .first; entries = begins i } in
             let here = subst (Rest c s cursor) whole rest in
             let f = found e m here in
             let same : e ≡ entry-of x = f .is ∙ (λ i. record { key = sym made i; value = v; after = u }) ∙ sym is in
             let its-key : e .key ≡ key-bytes key = ap (λ (z : format.Entry). z .key) (f .is) ∙ sym made in (
               m,
-              whole ∙ ap (λ z. behind z m) same,
+              whole ∙ ap (λ z. with-entry z m) same,
               record {
                 count = omega (arith, here .count);
                 each = here .each .1;
@@ -123,7 +123,7 @@ module _ (c : ℕ) (s : List ℕ) (cursor : Cursor) (r : List ℕ) (p : ℕ) (u 
           after = lu;
         }
 
-    step-up : (m : Node) → Rest c s next m → Rest c s cursor (behind (entry-of x) m)
+    step-up : (m : Node) → Rest c s next m → Rest c s cursor (with-entry (entry-of x) m)
     step-up m rest =
         let old = key-before (cursor .last) in
         let its-key : key-bytes key ≡ entry-of x .key = sym (ap (λ (z : format.Entry). z .key) is) in

@@ -1,11 +1,13 @@
 -- Going through a block byte by byte, and part by part. Assumes nothing.
 use mathlib.Core.Path.{_≡_, sym, ap, _∙_}
+use mathlib.Core.Bool.{Bool, true, false, cond}
 use mathlib.Core.List.{List, [], _∷_, _++_, append-assoc, append-cancel-left}
 use Prim.Native.Nat.{ℕ, _+_, _-_, _<_, _≤_}
 use native.Mathlib.Omega.{arith}
+use lib.Dec.{ltb}
 use lib.ListN.{length, take, drop, getD}
 use Rattle.std.proofs.shelf.Lists.{drop-all, drop-drop, drop-more, length-append, length-drop, length-take, take-append-drop}
-use Rattle.node.specs.Format.{head, link}
+use Rattle.node.specs.Format.{byte-string, head, link}
 use Rattle.node.proofs.Prefixes.{head-one}
 use Rattle.node_reader.specs.Items.{No-head, No-link, No-string, Reads-link, Reads-string}
 use Rattle.node_reader.specs.Stands.{Absent, Part, Stands}
@@ -35,6 +37,27 @@ part-of s start n room =
     let cut : (start + n) - start ≡ n = omega arith in
     let from : (start + n) - length b ≡ start = omega arith in
     record { inside = omega arith; is = cc }
+
+pub head-some : (m n : ℕ) → 0 < length (head m n)
+head-some m n = go (ltb n 24)
+  where
+    go : (t : Bool) → 0 < length (cond t ((m + n) ∷ []) ((m + 24) ∷ (n ∷ [])))
+    go true = omega arith
+    go false = omega arith
+
+-- where bytes end that stand at a place
+pub stands-end : (s : List ℕ) (at : ℕ) (p : List ℕ) (end : ℕ) → Stands s at p end → 0 < length p → end ≡ at + length p
+stands-end s at p end h some =
+    let sizes = ap length (h .is) in
+    omega (arith, length-append p (drop end s), length-drop at s, length-drop end s, h .within)
+
+-- the rest of a key stands right behind the head of its byte string
+pub place-behind-head : (s : List ℕ) (at at-k : ℕ) (rest : List ℕ) (end : ℕ) → Stands s at (0xA4 ∷ (0x61 ∷ (0x6B ∷ []))) at-k → Stands s at-k (byte-string rest) end
+    → end - length rest ≡ at + 3 + length (head 0x40 (length rest))
+place-behind-head s at at-k rest end tag string =
+    let size = length-append (head 0x40 (length rest)) rest in
+    let some = head-some 0x40 (length rest) in
+    omega (arith, stands-end s at _ at-k tag (omega arith), stands-end s at-k (byte-string rest) end string (omega arith))
 
 -- a part that is longer than what is left
 pub too-short : (s : List ℕ) (at : ℕ) (p : List ℕ) → length s - at < length p → Absent s at p

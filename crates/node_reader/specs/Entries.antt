@@ -7,12 +7,12 @@
 -- c is the code byte of the digest kind. Assumes nothing.
 use mathlib.Core.Path.{_≡_}
 use mathlib.Core.List.{List}
-use Prim.Native.Nat.{ℕ, _<_}
+use Prim.Native.Nat.{ℕ, _+_, _<_}
 use denote.Ref.{RefT}
 use lib.ListN.{length}
 use Rattle.std.specs.declared.option.Option.{Option}
 use Rattle.std.specs.declared.option.Option.the-variants.{Some, None}
-use Rattle.node.specs.Format.{entry-parts, link-or-null}
+use Rattle.node.specs.Format.{entry-parts, head, link-or-null}
 use Rattle.node.specs.WellFormed.{Link}
 use Rattle.node_reader.specs.Stands.{Absent, Part, Stands}
 use Rattle.node_reader.specs.declared.entry.EntryParts.{EntryParts}
@@ -37,5 +37,6 @@ pub record Reads-entry (s : List ℕ) (at c : ℕ) (e : EntryParts) (end : ℕ) 
   pub long : Link (lent (e .after))
   pub short : length (e .rest .now) < 256
   pub digest : length (e .value .now) ≡ 32
-  -- the rest of the key is the block's own bytes from its place on
+  -- the rest of the key is the block's own bytes from its place on, right behind the head of the byte string
   pub part : Part s (e .rest .now) (e .place)
+  pub behind-head : e .place ≡ at + 3 + length (head 0x40 (length (e .rest .now)))

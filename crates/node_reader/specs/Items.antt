@@ -4,14 +4,14 @@
 --   item-bytes   its bytes
 --   Sized        an item of a size that a node has
 --   value-of     what the code's items mean
---   place-of     where the bytes of an item's text, byte string or digest begin
+--   Lends        what an item lends is that part of the block
 --   Reads-item   an item stands at a place, and what it lends is that part of the block
 --   No-item      none does
 --
 -- c is the code byte of the digest kind. Assumes nothing.
 use mathlib.Core.Path.{_≡_}
 use mathlib.Core.List.{List, [], _∷_, _++_}
-use Prim.Native.Nat.{ℕ, _-_, _<_, _≤_}
+use Prim.Native.Nat.{ℕ, _+_, _-_, _<_, _≤_}
 use lib.ListN.{length}
 use Rattle.node.specs.Format.{head, link}
 use Rattle.node_reader.specs.Stands.{Stands, Absent, Part}
@@ -56,20 +56,20 @@ value-of (Map n) = map-of n
 value-of (Link d at) = digest (d .now)
 value-of Null = null
 
--- the part of the block that an item lends, at its offset
-abbrev pub Lends : List ℕ → Item → Type 0
-Lends s (Number n) = Unit {0}
-Lends s (Bytes b at) = Part s (b .now) at
-Lends s (Text t at) = Part s (t .now) at
-Lends s (Array n) = Unit {0}
-Lends s (Map n) = Unit {0}
-Lends s (Link d at) = Part s (d .now) at
-Lends s Null = Unit {0}
+-- what is lent is the part of the block from its offset on, up to the end of the item
+abbrev pub Lends : List ℕ → ℕ → Item → Type 0
+Lends s end (Number n) = Unit {0}
+Lends s end (Bytes b at) = Part s (b .now) at × (at + length (b .now) ≡ end)
+Lends s end (Text t at) = Part s (t .now) at × (at + length (t .now) ≡ end)
+Lends s end (Array n) = Unit {0}
+Lends s end (Map n) = Unit {0}
+Lends s end (Link d at) = Part s (d .now) at × (at + length (d .now) ≡ end)
+Lends s end Null = Unit {0}
 
 pub record Reads-item (s : List ℕ) (at c : ℕ) (i : Item) (end : ℕ) : Type 0 where
   pub sized : Sized (value-of i)
   pub stands : Stands s at (item-bytes c (value-of i)) end
-  pub lends : Lends s i
+  pub lends : Lends s end i
 
 abbrev pub No-item : List ℕ → ℕ → ℕ → Type 0
 No-item s at c = (v : Value) → Sized v → Absent s at (item-bytes c v)

@@ -39,20 +39,20 @@ pub record Extends (before : List ℕ) (p : ℕ) (tail : List ℕ) : Type 0 wher
   pub joins : Joins before p tail
   pub longest : shared before (take p before ++ tail) ≡ p
 
--- the node without its first entry
-abbrev pub behind : format.Entry → Node → Node
-behind e n = record { first = n .first; entries = e ∷ n .entries }
+-- an entry, and then what is left
+abbrev pub with-entry : format.Entry → Node → Node
+with-entry e n = record { first = n .first; entries = e ∷ n .entries }
 
 abbrev pub Ends : ℕ → List ℕ → Cursor → Type 0
-Ends c s cursor = (e : format.Entry) (n : Node) → Rest c s cursor (behind e n) → ⊥
+Ends c s cursor = (e : format.Entry) (n : Node) → Rest c s cursor (with-entry e n) → ⊥
 
 pub record Steps (c : ℕ) (s : List ℕ) (cursor : Cursor) (e : Entry) (next : Cursor) : Type 0 where
   pub some : 0 < cursor .left
   pub fewer : next .left + 1 ≡ cursor .left
   -- what is left begins with this entry
-  pub down : (n : Node) → Rest c s cursor n → (m : Node) × (n ≡ behind (entry-of e) m) × Rest c s next m
+  pub down : (n : Node) → Rest c s cursor n → (m : Node) × (n ≡ with-entry (entry-of e) m) × Rest c s next m
   -- and what is left behind it, with this entry, is what is left
-  pub up : (m : Node) → Rest c s next m → Rest c s cursor (behind (entry-of e) m)
+  pub up : (m : Node) → Rest c s next m → Rest c s cursor (with-entry (entry-of e) m)
 
 -- some entries, and then what is left
 abbrev pub with-entries : List format.Entry → Node → Node

@@ -1,4 +1,5 @@
 -- Where a part is missing no entry stands; where all stand, the entry does.
+use Rattle.node_reader.proofs.Walks.{place-behind-head}
 use Rattle.node_reader.proofs.Parts.{joins, at-k, end-k, at-p, end-p, at-t, end-t, at-v}
 use Rattle.node_reader.proofs.entry.read_parts.Needs as need
 
@@ -53,4 +54,5 @@ returns c =
       short = b .short;
       digest = l .long;
       part = b .part;
+      behind-head = place-behind-head _ _ _ _ _ (c .in-Some .ensures tt) (b .stands);
     }
