@@ -1,11 +1,12 @@
 // Bytes with a part replaced.
 ghost use mathlib.Core.Path.{_≡_};
 ghost use mathlib.Core.List.{_++_};
-ghost use Prim.Native.Nat.{_+_, _≤_};
+ghost use Prim.Native.Nat.{_≤_};
 ghost use lib.ListN.{length, take, drop};
 ghost use Rattle.std.specs.Of.Vec.{vec-items};
 ghost use Rattle.std.specs.Options.{Cases as BySome};
 ghost use Rattle.std.specs.Vec.{made};
+ghost use Rattle.damaged_nodes.specs.Parts.{Replaced, Stands};
 use std::alloc::AllocError;
 use std::alloc::Global;
 
@@ -35,7 +36,9 @@ pub fn replaced(
     bytes: &[u8],
     old: &[u8],
     new: &[u8],
-) -> Result<Option<Vec<u8>>, AllocError> {
+) -> Result<Option<Vec<u8>>, AllocError>
+    ensures { λ r. ⌜ made r (λ o. BySome o (Unit {0}) (λ v. Replaced (now (bytes .entry)) (now (old .entry)) (now (new .entry)) (vec-items v))) ⌝ }
+{
     let Some(at) = place_of(bytes, old) else {
         return Ok(None);
     };
@@ -45,7 +48,7 @@ pub fn replaced(
 
 // Where `part` stands first in the bytes.
 fn place_of(bytes: &[u8], part: &[u8]) -> Option<usize>
-    ensures { λ r. ⌜ BySome r (Unit {0}) (λ at. at + length (now (part .entry)) ≤ length (now (bytes .entry))) ⌝ }
+    ensures { λ r. ⌜ BySome r (Unit {0}) (λ at. Stands (now (bytes .entry)) (now (part .entry)) at) ⌝ }
 {
     for at in 0..bytes.len() {
         let (_, rest) = bytes.split_at(at);
