@@ -11,7 +11,7 @@ use std::alloc::AllocError;
 use std::alloc::Global;
 
 // The bytes with `new` in the place of those from `from` up to `to`.
-pub fn spliced(
+pub(crate) fn spliced(
     heap: Global,
     bytes: &[u8],
     from: usize,
@@ -31,7 +31,7 @@ pub fn spliced(
 }
 
 // The bytes with `new` in the place of the first `old`, if there is one.
-pub fn replaced(
+pub(crate) fn replaced(
     heap: Global,
     bytes: &[u8],
     old: &[u8],

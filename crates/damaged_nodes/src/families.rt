@@ -8,7 +8,7 @@ use std::alloc::Global;
 use std::error::AnyError;
 
 // Each byte changed to each other value.
-pub fn changed(heap: Global, whole: &[u8]) -> Result<Vec<Verdict>, AnyError> {
+pub(crate) fn changed(heap: Global, whole: &[u8]) -> Result<Vec<Verdict>, AnyError> {
     let mut verdicts = Vec::new(heap);
     for (at, byte) in whole.iter().enumerate() {
         for step in 1..=255 {
@@ -20,7 +20,7 @@ pub fn changed(heap: Global, whole: &[u8]) -> Result<Vec<Verdict>, AnyError> {
 }
 
 // Each shorter beginning.
-pub fn truncated(heap: Global, whole: &[u8]) -> Result<Vec<Verdict>, AnyError> {
+pub(crate) fn truncated(heap: Global, whole: &[u8]) -> Result<Vec<Verdict>, AnyError> {
     let mut verdicts = Vec::new(heap);
     for len in 0..whole.len() {
         verdicts.push(judge::<Sha256>(heap, &whole[0..len])?)?;
@@ -29,7 +29,7 @@ pub fn truncated(heap: Global, whole: &[u8]) -> Result<Vec<Verdict>, AnyError> {
 }
 
 // Each byte behind the end.
-pub fn appended(heap: Global, whole: &[u8]) -> Result<Vec<Verdict>, AnyError> {
+pub(crate) fn appended(heap: Global, whole: &[u8]) -> Result<Vec<Verdict>, AnyError> {
     let mut verdicts = Vec::new(heap);
     for byte in 0..=255 {
         let block = spliced(heap, whole, whole.len(), whole.len(), &[byte])?;

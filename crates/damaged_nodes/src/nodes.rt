@@ -17,7 +17,7 @@ use std::alloc::Global;
 use std::error::AnyError;
 
 // The bytes of the node with this first link and these entries.
-pub fn block_of<K: DigestKind>(
+pub(crate) fn block_of<K: DigestKind>(
     heap: Global,
     first: Option<Digest>,
     entries: &[Entry],
@@ -33,7 +33,7 @@ pub fn block_of<K: DigestKind>(
 }
 
 // Three keys that share some of their bytes, with a node before them and one between the last two.
-pub fn sample<K: DigestKind>(heap: Global) -> Result<Vec<u8>, AnyError> {
+pub(crate) fn sample<K: DigestKind>(heap: Global) -> Result<Vec<u8>, AnyError> {
     let first = Sha256::digest(b"rm");
     let between = Sha256::digest(b"rm/3");
     let entries = [
@@ -45,7 +45,7 @@ pub fn sample<K: DigestKind>(heap: Global) -> Result<Vec<u8>, AnyError> {
 }
 
 // Two keys of 64 bytes that share all but the last.
-pub fn long_keys(heap: Global) -> Result<Vec<u8>, AnyError> {
+pub(crate) fn long_keys(heap: Global) -> Result<Vec<u8>, AnyError> {
     let first = [b'a'; Key::MAX_LEN];
     let mut second = first;
     second[Key::MAX_LEN - 1] = b'b';
@@ -54,7 +54,7 @@ pub fn long_keys(heap: Global) -> Result<Vec<u8>, AnyError> {
 }
 
 // The keys of one byte from 0 on, as a node has them that may have any number of keys from 24 to 255.
-pub fn counted_keys(heap: Global, count: u8) -> Result<Vec<u8>, AnyError> {
+pub(crate) fn counted_keys(heap: Global, count: u8) -> Result<Vec<u8>, AnyError> {
     let mut block = Vec::from_slice(heap, &[0xA2, 0x61, b'e', 0x98, count])?;
     for byte in 0..count {
         let alone = block_of::<Sha256>(heap, None, &[entry(&[byte], None)?])?;

@@ -38,7 +38,7 @@ pub impl fmt::Display for Verdict as VerdictDisplay {
 }
 
 // Reads a block under the kind `K`, and writes again what was read.
-pub fn judge<K: DigestKind>(heap: Global, block: &[u8]) -> Result<Verdict, AnyError>
+pub(crate) fn judge<K: DigestKind>(heap: Global, block: &[u8]) -> Result<Verdict, AnyError>
     ensures { λ r. ⌜ made r (λ v. Judged (K·DigestKind .kind .code) (now (block .entry)) v) ⌝ }
 {
     let Some(reader) = NodeReader::read::<K>(block) else {
@@ -67,7 +67,7 @@ fn entries_of(heap: Global, reader: &NodeReader) -> Result<Vec<Entry>, AllocErro
 }
 
 // How many of the verdicts are `wanted`.
-pub fn times(verdicts: &[Verdict], wanted: Verdict) -> usize
+pub(crate) fn times(verdicts: &[Verdict], wanted: Verdict) -> usize
     ensures { λ r. ⌜ r ≡ times-in wanted (now (verdicts .entry)) ⌝ }
 {
     let mut count = 0;

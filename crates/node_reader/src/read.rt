@@ -1,7 +1,7 @@
 // Reading a node.
 ghost use mathlib.Core.Path.{_≡_};
-ghost use Rattle.std.specs.Options.{Cases as BySome};
 ghost use lib.ListN.{length};
+ghost use Rattle.std.specs.Options.{Cases as BySome};
 ghost use Rattle.node.specs.Format.{Node};
 ghost use Rattle.node.specs.Laws.{Encodes};
 ghost use Rattle.node.specs.Values.{link-of};

@@ -1,8 +1,8 @@
 // A whole node.
+ghost use mathlib.Core.List.{List};
+ghost use Prim.Native.Nat.{ℕ};
 ghost use Rattle.std.specs.Options.{Cases as BySome};
 ghost use Rattle.std.specs.declared.option.Option.{Option};
-ghost use Prim.Native.Nat.{ℕ};
-ghost use mathlib.Core.List.{List};
 ghost use Rattle.node.specs.Format.{Node};
 ghost use Rattle.node.specs.Laws.{Encodes};
 ghost use Rattle.node.specs.Values.{link-of};

@@ -26,7 +26,7 @@ pub const KEYS: [&str; 7] = [
 ];
 
 // The bytes 0 to 250, again and again, `len` of them.
-pub fn counted(heap: Global, len: usize) -> Result<Vec<u8>, AllocError>
+pub(crate) fn counted(heap: Global, len: usize) -> Result<Vec<u8>, AllocError>
     ensures { λ r. ⌜ made r (λ v. vec-items v ≡ counted-bytes len) ⌝ }
 {
     let mut bytes = Vec::new(heap);

@@ -4,10 +4,9 @@
 //   write_lesson   a node with one lesson
 ghost use mathlib.Core.Path.{_≡_};
 ghost use mathlib.Core.List.{_∷_, []};
-ghost use lib.ListN.{take};
-ghost use Rattle.std.specs.Options.{Cases as BySome};
 ghost use Prim.Native.Nat.{_<_};
-ghost use lib.ListN.{length};
+ghost use lib.ListN.{length, take};
+ghost use Rattle.std.specs.Options.{Cases as BySome};
 ghost use Rattle.worked_examples.specs.Layers.{Worked-layers};
 ghost use Rattle.worked_examples.specs.Nodes.{Worked-nodes, lesson-bytes};
 use bytes::Key;
