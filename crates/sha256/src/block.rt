@@ -33,7 +33,7 @@ fn compress(start: State, block: &[u8; 64]) -> State
     start.add(state)
 }
 
-// The eight rounds from `t` on. Written out, they leave each variable in its register: a loop over all rounds is a tenth slower.
+// The eight rounds from `t` on, written out for speed: no word moves between them.
 fn eight_rounds(start: State, words: &[u32; 64], t: usize) -> State
     requires { ⌜ t + 8 ≤ 64 ⌝ }
     ensures { λ r. ⌜ r ≡ rounds start (between t (t + 8) constants) (between t (t + 8) (now (words .entry))) ⌝ }
