@@ -1,4 +1,4 @@
--- The test of well-formed nodes decides them. Assumes nothing.
+-- The test of well-formed nodes decides them, and their links are digests. Assumes nothing.
 use mathlib.Core.Path.{refl}
 use mathlib.Core.Bool.{Bool}
 use mathlib.Core.List.{List, [], _∷_}
@@ -9,9 +9,10 @@ use Rattle.std.specs.Orderings.{Decides}
 use Rattle.std.specs.declared.option.Option.{Option}
 use Rattle.std.specs.declared.option.Option.the-variants.{Some, None}
 use Rattle.std.specs.shelf.Lists.{All}
+use Rattle.std.proofs.shelf.Elements.{all-weaker}
 use Rattle.std.proofs.shelf.Tests.{and-from, and-parts, eq-eqb, eqb-true, le-leb, leb-true}
 use Rattle.node.specs.Format.{Entry, Node}
-use Rattle.node.specs.WellFormed.{Digest, Link, EntryFormed, WellFormed, all, is-digest, is-link, entry-formed, well-formed}
+use Rattle.node.specs.WellFormed.{Digest, Link, EntryLinked, Linked, EntryFormed, WellFormed, all, is-digest, is-link, entry-formed, well-formed}
 
 all-decides : {X : Type 0} (test : X → Bool) (P : X → Type 0) → ((x : X) → Decides (test x) (P x)) → (xs : List X) → Decides (all test xs) (All P xs)
 all-decides test P each [] = ((λ _. tt), (λ _. refl))
@@ -57,3 +58,11 @@ node-decides n =
           and-from (leb few 64) _ (le-leb few 64 (h .few))
           (and-from (all entry-formed (n .entries)) (is-link (n .first)) (each .1 (h .each)) (first .1 (h .first)))),
     )
+
+-- well-formed nodes have links that are digests
+
+entries-linked : (es : List Entry) → All EntryFormed es → All EntryLinked es
+entries-linked es = all-weaker EntryFormed EntryLinked (λ e formed. record { value = formed .value; after = formed .after }) es
+
+pub formed-linked : (n : Node) → WellFormed n → Linked n
+formed-linked n formed = record { each = entries-linked (n .entries) (formed .each); first = formed .first }

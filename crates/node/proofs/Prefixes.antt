@@ -11,7 +11,7 @@ use Rattle.std.specs.shelf.Lists.{All}
 use Rattle.bytes.specs.Shared.{shared}
 use Rattle.bytes.proofs.Fronts.{shared-rebuilds}
 use Rattle.node.specs.Format.{Entry, Node, head, byte-string, link, link-or-null, entry-parts, entry, entries, encode}
-use Rattle.node.specs.WellFormed.{Link, EntryFormed, WellFormed}
+use Rattle.node.specs.WellFormed.{Link, EntryLinked, Linked}
 
 -- two parts of one length
 pub same-length : (a b r s : List ℕ) → length a ≡ length b → a ++ r ≡ b ++ s → (a ≡ b) × (r ≡ s)
@@ -75,13 +75,13 @@ key-one before k k′ e d =
     let other = shared-rebuilds before k′ in
     cc
 
-pub entry-one : (c : ℕ) (before : List ℕ) (x y : Entry) (r s : List ℕ) → EntryFormed x → EntryFormed y → entry c before x ++ r ≡ entry c before y ++ s → (x ≡ y) × (r ≡ s)
+pub entry-one : (c : ℕ) (before : List ℕ) (x y : Entry) (r s : List ℕ) → EntryLinked x → EntryLinked y → entry c before x ++ r ≡ entry c before y ++ s → (x ≡ y) × (r ≡ s)
 entry-one c before x y r s fx fy e =
     let h = entry-parts-one c _ _ _ _ (x .after) (y .after) (x .value) (y .value) r s (fx .after) (fy .after) (fx .value) (fy .value) e in
     let k = key-one before (x .key) (y .key) (h .shares) (h .rest) in
     (λ i. record { key = k i; value = h .value i; after = h .after i }, h .end)
 
-pub entries-one : (c : ℕ) (before : List ℕ) (xs ys : List Entry) (r s : List ℕ) → All EntryFormed xs → All EntryFormed ys → length xs ≡ length ys
+pub entries-one : (c : ℕ) (before : List ℕ) (xs ys : List Entry) (r s : List ℕ) → All EntryLinked xs → All EntryLinked ys → length xs ≡ length ys
     → entries c before xs ++ r ≡ entries c before ys ++ s → (xs ≡ ys) × (r ≡ s)
 entries-one c before [] [] r s fx fy same e = (refl, e)
 entries-one c before [] (y ∷ ys) r s fx fy same e = absurd (omega arith)
@@ -92,7 +92,7 @@ entries-one c before (x ∷ xs) (y ∷ ys) r s fx fy same e =
     let rest = entries-one c (x .key) xs ys r s (fx .1) (fy .1) (omega arith) f in
     (let p = h .0 in let q = rest .0 in cc, rest .1)
 
-pub encode-one : (c : ℕ) (m n : Node) → WellFormed m → WellFormed n → encode c m ≡ encode c n → m ≡ n
+pub encode-one : (c : ℕ) (m n : Node) → Linked m → Linked n → encode c m ≡ encode c n → m ≡ n
 unfolding encode
 encode-one c m n fm fn e =
     let f : head 0x80 (length (m .entries)) ++ (entries c [] (m .entries) ++ (0x61 ∷ (0x6C ∷ link-or-null c (m .first))))

@@ -4,7 +4,7 @@
 //   block_limit   the most bytes of a block
 ghost use mathlib.Core.Path.{_≡_};
 ghost use Prim.Native.Nat.{ℕ};
-ghost use Rattle.node.specs.Laws.{Encodings, Fits};
+ghost use Rattle.node.specs.Laws.{Encodings, Fits, Of-bytes};
 
 mod entry;
 
@@ -20,6 +20,7 @@ pub const BLOCK_LIMIT: usize = 10_752;
 pub fn block_limit() -> usize
     ensures value { λ r. ⌜ r ≡ 10752 ⌝ }
     ensures fits { λ r. ⌜ Fits r ⌝ }
+    ensures of_bytes { λ _. ⌜ Of-bytes ⌝ }
     ensures encodings { λ _. ⌜ ((c : ℕ) → Encodings c) ⌝ }
 {
     BLOCK_LIMIT
