@@ -1,0 +1,13 @@
+pub mod Rows
+pub mod Maps
+pub mod Layers
+pub mod Splits
+pub mod Places
+pub mod Paths
+pub mod Nodes
+pub mod Changes
+pub mod Tops
+pub mod Widths
+pub mod Rebuilds
+pub mod Collisions
+pub mod Blocks

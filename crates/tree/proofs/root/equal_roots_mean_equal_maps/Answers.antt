@@ -1,0 +1,6 @@
+-- What a root tells.
+use Rattle.tree.proofs.Collisions.{equal-roots}
+use Rattle.tree.proofs.root.equal_roots_mean_equal_maps.Needs as need
+
+pub returns : need.returns
+returns c = equal-roots

@@ -1,0 +1,7 @@
+pub mod Map
+pub mod MapLaws
+pub mod Row
+pub mod Tree
+pub mod Path
+pub mod Change
+pub mod Laws
