@@ -1,1 +1,2 @@
 pub mod Lessons
+pub mod Trees

@@ -2,6 +2,7 @@
 //
 //   layers         the layers of three keys under Fold
 //   write_lesson   a node with one lesson
+//   lesson_root    the root of the map with that lesson
 ghost use mathlib.Core.Path.{_≡_};
 ghost use mathlib.Core.List.{_∷_, []};
 ghost use Prim.Native.Nat.{_<_};
@@ -9,7 +10,9 @@ ghost use lib.ListN.{length, take};
 ghost use Rattle.std.specs.Options.{Cases as BySome};
 ghost use Rattle.worked_examples.specs.Layers.{Worked-layers};
 ghost use Rattle.worked_examples.specs.Nodes.{Worked-nodes, lesson-bytes};
+ghost use Rattle.worked_examples.specs.Trees.{Worked-trees, lesson-root};
 use bytes::Key;
+use digest::Digest;
 use digest::DigestKind;
 use digest::Fold;
 use digest::FoldDigestKind;
@@ -43,4 +46,13 @@ pub fn write_lesson(out: &mut [u8]) -> Option<usize>
         after: None,
     };
     write_node::<Fold>(out, None, &[entry])
+}
+
+// The root of the map that has key 61 with record 62, under Fold: the digest of its only node, which is written at the start of `out`.
+pub fn lesson_root(out: &mut [u8]) -> Option<Digest>
+    ensures value { λ r. ⌜ BySome r (length (now (out .entry)) < 10752) (λ digest. digest .bytes ≡ lesson-root) ⌝ }
+    ensures definitions { λ _. ⌜ Worked-trees ⌝ }
+{
+    let end = write_lesson(out)?;
+    Some(Fold::digest(&out[..end]))
 }
