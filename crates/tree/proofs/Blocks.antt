@@ -1,23 +1,21 @@
 -- The nodes of a map that is not crowded are well formed, and its blocks fit a store. Assumes nothing.
-use mathlib.Core.Path.{_≡_, refl}
+use mathlib.Core.Path.{_≡_}
 use mathlib.Core.Bool.{false}
-use mathlib.Core.List.{List, [], _∷_, _++_, map}
-use Prim.Native.Nat.{ℕ, zero, suc, _≤_, _<_}
+use mathlib.Core.List.{List, [], _∷_, map}
+use Prim.Native.Nat.{ℕ, zero, suc, _≤_}
 use native.Mathlib.Omega.{arith}
 use lib.ListN.{length}
-use Rattle.std.specs.declared.option.Option.{Option}
-use Rattle.std.specs.declared.option.Option.the-variants.{Some, None}
 use Rattle.std.specs.shelf.Lists.{All}
 use Rattle.std.proofs.shelf.Elements.{all-append, all-map, all-weaker}
 use Rattle.digest.specs.Kind.{Kind}
-use Rattle.node.specs.Format.{Entry, Node}
-use Rattle.node.specs.WellFormed.{Link, EntryFormed, WellFormed, Bytes, LinkBytes, EntryBytes, NodeBytes}
+use Rattle.node.specs.Format.{Node}
+use Rattle.node.specs.WellFormed.{Link, EntryFormed, WellFormed, LinkBytes, EntryBytes, NodeBytes}
 use Rattle.node.proofs.OfBytes.{encode-bytes}
 use Rattle.node.proofs.Sizes.{encode-fits}
 use Rattle.tree.specs.Laws.{Parted, Is-block, Block-law}
 use Rattle.tree.specs.Map.{Is-key, Is-record, Item, Map, Is-map}
 use Rattle.tree.specs.Row.{Row, end, more, map-row, first-gap}
-use Rattle.tree.specs.Tree.{at, cut, leaf, Links, entries-of, node-of, bytes-of, below, row, top, Placed, over-gaps, nodes-below, nodes, blocks, crowded}
+use Rattle.tree.specs.Tree.{at, cut, leaf, entries-of, node-of, bytes-of, below, row, top, Placed, over-gaps, nodes-below, nodes, blocks, crowded}
 use Rattle.tree.proofs.Rows.{cut-parted}
 use Rattle.tree.proofs.Widths.{all-narrow, narrow-few}
 

@@ -1,7 +1,7 @@
 -- Which nodes a change makes below a layer: those of the changed path are nodes of the changed tree, and with the nodes that were there
 -- they are all of them. What is said of each node is said for any P. Assumes nothing.
 use mathlib.Core.Path.{_≡_, refl, ap, sym, subst, _∙_}
-use mathlib.Core.Bool.{Bool, true, false, cond}
+use mathlib.Core.Bool.{Bool, true, false}
 use mathlib.Core.List.{List, [], _∷_, _++_, map}
 use Prim.Native.Nat.{ℕ, zero, suc, _<_}
 use native.Mathlib.Omega.{arith}
@@ -10,16 +10,17 @@ use lib.ListN.{length}
 use Rattle.std.specs.shelf.Lists.{All}
 use Rattle.std.proofs.shelf.Elements.{all-append}
 use Rattle.std.proofs.shelf.Lists.{length-map}
+use Rattle.std.proofs.shelf.Tests.{cond-both, eqb-true}
 use Rattle.digest.specs.Kind.{Kind}
 use Rattle.digest.specs.Layer.{layer}
 use Rattle.tree.specs.Change.{placed, upward, one, both}
 use Rattle.tree.specs.Map.{Item, Map}
-use Rattle.tree.specs.Path.{place, has, gap-of, path, Sides, sides, Split-path, split-path}
-use Rattle.tree.specs.Row.{Row, gap-at, meet}
+use Rattle.tree.specs.Path.{place, has, gap-of, path, sides, Split-path, split-path}
+use Rattle.tree.specs.Row.{gap-at, meet}
 use Rattle.tree.specs.Tree.{at, cut, Links, row, Placed, over-gaps, nodes-below}
-use Rattle.tree.proofs.Layers.{Under, at-true, at-below, first-under, last-under, under-append}
+use Rattle.tree.proofs.Layers.{Under, at-below, first-under, last-under, under-append}
 use Rattle.tree.proofs.Nodes.{all-parts, gap-nodes, first-nodes, last-nodes, meet-gap, meet-left, meet-right, meet-again, meet-from, graft-from, graft-parts, none, inner, own, made, placed-rest}
-use Rattle.tree.proofs.Paths.{path-length, split-path-at, split-path-past}
+use Rattle.tree.proofs.Paths.{path-length, split-path-at, split-path-past, split-path-cases}
 use Rattle.tree.proofs.Places.{Around, around-gaps, gap-absent}
 use Rattle.tree.proofs.Rows.{cut-append, cut-at, cut-past}
 use Rattle.tree.proofs.Splits.{left-gap, right-gap}
@@ -37,15 +38,10 @@ sides-layers κ (suc n) a b = ap suc (sides-layers κ n (left-gap κ n a) (right
 
 pub split-layers : (κ : Kind) (n : ℕ) (k : List ℕ) (m : Map) → length (layers-of (split-path κ n k m)) ≡ n
 split-layers κ zero k m = refl
-split-layers κ (suc n) k m = go (has k (row κ n m)) (split-layers κ n k (gap-of κ n k m))
-  where
-    go : (t : Bool) → length (layers-of (split-path κ n k (gap-of κ n k m))) ≡ n
-        → length (layers-of (cond t
-        (record { upper = row κ n m ∷ []; lower = sides κ n (gap-at (place k (row κ n m)) (cut κ n m)) (gap-at (suc (place k (row κ n m))) (cut κ n m)) })
-        (record { upper = row κ n m ∷ split-path κ n k (gap-of κ n k m) .upper; lower = split-path κ n k (gap-of κ n k m) .lower })))
-        ≡ suc n
-    go true rest = ap suc (sides-layers κ n (gap-at (place k (row κ n m)) (cut κ n m)) (gap-at (suc (place k (row κ n m))) (cut κ n m)))
-    go false rest = ap suc rest
+split-layers κ (suc n) k m =
+    split-path-cases κ n k m (λ (p : Split-path). length (layers-of p) ≡ suc n)
+    (ap suc (sides-layers κ n (gap-at (place k (row κ n m)) (cut κ n m)) (gap-at (suc (place k (row κ n m))) (cut κ n m))))
+    (ap suc (split-layers κ n k (gap-of κ n k m)))
 
 module _ (κ : Kind) (P : Placed → Type 0) where
   -- one layer above others
@@ -58,11 +54,9 @@ module _ (κ : Kind) (P : Placed → Type 0) where
   -- the nodes of a path, of its sides and of a split path are nodes of the tree
 
   pub gap-of-all : (n : ℕ) (k : List ℕ) (m : Map) → All P (over-gaps (nodes-below κ n) (cut κ n m)) → All P (nodes-below κ n (gap-of κ n k m))
-  gap-of-all n k m h = go (has k (row κ n m))
-    where
-      go : (t : Bool) → All P (nodes-below κ n (cond t [] (gap-at (place k (row κ n m)) (cut κ n m))))
-      go true = none κ P n
-      go false = gap-nodes P (nodes-below κ n) (place k (row κ n m)) (cut κ n m) h
+  gap-of-all n k m h =
+      cond-both (has k (row κ n m)) _ _ (λ (g : Map). All P (nodes-below κ n g)) (λ _. none κ P n)
+      (λ _. gap-nodes P (nodes-below κ n) (place k (row κ n m)) (cut κ n m) h)
 
   pub path-sound : (n : ℕ) (k : List ℕ) (m : Map) → All P (nodes-below κ n m) → All P (upward (map one (path κ n k m)))
   path-sound zero k m h = tt
@@ -80,20 +74,17 @@ module _ (κ : Kind) (P : Placed → Type 0) where
 
   pub split-sound : (n : ℕ) (k : List ℕ) (m : Map) → All P (nodes-below κ n m) → All P (upward (layers-of (split-path κ n k m)))
   split-sound zero k m h = tt
-  split-sound (suc n) k m h = go (has k (row κ n m)) (split-sound n k (gap-of κ n k m) (gap-of-all n k m (inner κ P n m h)))
-    where
-      go : (t : Bool) → All P (upward (layers-of (split-path κ n k (gap-of κ n k m))))
-          → All P (upward (layers-of (cond t
-          (record { upper = row κ n m ∷ []; lower = sides κ n (gap-at (place k (row κ n m)) (cut κ n m)) (gap-at (suc (place k (row κ n m))) (cut κ n m)) })
-          (record { upper = row κ n m ∷ split-path κ n k (gap-of κ n k m) .upper; lower = split-path κ n k (gap-of κ n k m) .lower }))))
-      go true rest =
-          let a = gap-at (place k (row κ n m)) (cut κ n m) in
-          let b = gap-at (suc (place k (row κ n m))) (cut κ n m) in
-          let gaps = inner κ P n m h in
-          over n (one (row κ n m)) (map both (sides κ n a b)) (sides-layers κ n a b)
-          (sides-sound n a b (gap-nodes P (nodes-below κ n) (place k (row κ n m)) (cut κ n m) gaps) (gap-nodes P (nodes-below κ n) (suc (place k (row κ n m))) (cut κ n m) gaps))
-          (own κ P n m [] h tt)
-      go false rest = over n (one (row κ n m)) (layers-of (split-path κ n k (gap-of κ n k m))) (split-layers κ n k (gap-of κ n k m)) rest (own κ P n m [] h tt)
+  split-sound (suc n) k m h =
+      let i = place k (row κ n m) in
+      let a = gap-at i (cut κ n m) in
+      let b = gap-at (suc i) (cut κ n m) in
+      let g = gap-of κ n k m in
+      let f = nodes-below κ n in
+      let gaps = inner κ P n m h in
+      let node = own κ P n m [] h tt in
+      split-path-cases κ n k m (λ (p : Split-path). All P (upward (layers-of p)))
+      (over n (one (row κ n m)) (map both (sides κ n a b)) (sides-layers κ n a b) (sides-sound n a b (gap-nodes P f i (cut κ n m) gaps) (gap-nodes P f (suc i) (cut κ n m) gaps)) node)
+      (over n (one (row κ n m)) (layers-of (split-path κ n k g)) (split-layers κ n k g) (split-sound n k g (gap-of-all n k m gaps)) node)
 
   -- the nodes that a split makes, with those that were there
   pub split-complete : (n : ℕ) (a b : Map) → Under κ n a → Under κ n b → All P (upward (map both (sides κ n a b))) → All P (nodes-below κ n (a ++ b)) → All P (nodes-below κ n a) × All P (nodes-below κ n b)
@@ -191,7 +182,7 @@ known κ n a x b = record { upper = split-path κ n (x .key) (a ++ (x ∷ b)) .u
 
 module _ (κ : Kind) (n : ℕ) (a : Map) (x : Item) (b : Map) (s : Around (x .key) a b) where
   known-at : at κ n x ≡ true → layers-of (known κ (suc n) a x b) ≡ one (row κ n (a ++ (x ∷ b))) ∷ map both (sides κ n [] [])
-  known-at t = rw (split-path-at κ n (x .key) a b s x refl t, at-true (layer κ (x .key)) n t)
+  known-at t = rw (split-path-at κ n (x .key) a b s x refl t, eqb-true (layer κ (x .key)) n t)
 
   known-past : at κ n x ≡ false → layers-of (known κ (suc n) a x b) ≡ one (row κ n (a ++ (x ∷ b))) ∷ layers-of (known κ n (left-gap κ n a) x (right-gap κ n b))
   known-past t = rw (split-path-past κ n (x .key) a b s x t)

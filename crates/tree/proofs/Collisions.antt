@@ -5,8 +5,6 @@ use mathlib.Core.Logic.{_⊎_, inl, inr, ⊎-map, _≢_}
 use Prim.Native.Nat.{ℕ, zero, suc, _<_}
 use native.Mathlib.Decide.{ℕ-discrete}
 use native.Mathlib.Omega.{arith}
-use Rattle.std.specs.declared.option.Option.{Option}
-use Rattle.std.specs.declared.option.Option.the-variants.{Some, None}
 use Rattle.std.specs.shelf.Lists.{All, Has}
 use Rattle.std.proofs.shelf.Elements.{all-has-itself, has-append-left, has-append-right}
 use Rattle.std.proofs.shelf.Lists.{map-append}

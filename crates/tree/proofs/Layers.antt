@@ -1,38 +1,30 @@
 -- Maps whose keys are all below a layer, and the highest layer of a map. Assumes nothing.
-use mathlib.Core.Path.{_≡_, refl, ap, sym, subst, _∙_}
+use mathlib.Core.Path.{_≡_, refl, ap, sym, subst}
 use mathlib.Core.Bool.{Bool, true, false}
 use mathlib.Core.List.{List, [], _∷_, _++_}
 use mathlib.Core.Logic.{_⊎_, inl, inr, _≢_}
-use Prim.Native.Nat.{ℕ, zero, suc, max, _<_, _≤_}
+use Prim.Native.Nat.{ℕ, suc, max, _<_, _≤_}
 use native.Mathlib.Omega.{arith}
 use lib.Dec.{eqb}
 use Rattle.std.specs.shelf.Lists.{All, Has}
-use Rattle.std.proofs.shelf.Elements.{all-append, all-weaker, has-append-left, has-append-right, all-has-itself}
+use Rattle.std.proofs.shelf.Elements.{all-append, all-weaker, has-append-right, all-has-itself}
+use Rattle.std.proofs.shelf.Tests.{eqb-true, eqb-false}
 use Rattle.digest.specs.Kind.{Kind}
 use Rattle.digest.specs.Layer.{layer}
 use Rattle.tree.specs.Laws.{Parted, Node-law}
 use Rattle.tree.specs.Map.{Item, Map}
-use Rattle.tree.specs.Row.{Row, end, more, prepend, cut-by, count, first-gap, last-gap}
+use Rattle.tree.specs.Row.{Row, end, more, prepend, count, first-gap, last-gap}
 use Rattle.tree.specs.Tree.{at, cut, below, row, top}
 use Rattle.tree.proofs.Rows.{cut-parted, flat-cut, parted-first, parted-last}
 
 abbrev pub Under : Kind → ℕ → Map → Type 0
 Under κ n m = All (λ x. layer κ (x .key) < n) m
 
-pub at-true : (m n : ℕ) → eqb m n ≡ true → m ≡ n
-at-true m n t = grind arith
-
-pub at-false : (m n : ℕ) → eqb m n ≡ false → m ≢ n
-at-false m n t = λ e. grind arith
-
 pub at-below : (m n : ℕ) → eqb m n ≡ false → m < suc n → m < n
 at-below m n t h = grind arith
 
 pub at-above : (m n : ℕ) → m < n → eqb m n ≡ false
 at-above m n h = grind arith
-
-pub at-self : (m : ℕ) → eqb m m ≡ true
-at-self m = grind arith
 
 pub under-left : (κ : Kind) (n : ℕ) (a b : Map) → Under κ n (a ++ b) → Under κ n a
 under-left κ n [] b u = tt
@@ -53,7 +45,7 @@ module _ (κ : Kind) (n : ℕ) where
   pub cut-under : (m : Map) → Under κ (suc n) m → Parted (λ x. layer κ (x .key) < n) (λ x. layer κ (x .key) ≡ n) (cut κ n m)
   cut-under m u =
       cut-parted (at κ n) (λ x. layer κ (x .key) < n) (λ x. layer κ (x .key) ≡ n) (λ x. layer κ (x .key) < suc n)
-      (λ x t _. at-true (layer κ (x .key)) n t) (λ x t h. at-below (layer κ (x .key)) n t h) m u
+      (λ x t _. eqb-true (layer κ (x .key)) n t) (λ x t h. at-below (layer κ (x .key)) n t h) m u
 
   pub first-under : (m : Map) → Under κ (suc n) m → Under κ n (first-gap (cut κ n m))
   first-under m u = parted-first (λ x. layer κ (x .key) < n) (λ x. layer κ (x .key) ≡ n) (cut κ n m) (cut-under m u)
@@ -104,7 +96,7 @@ keyed-top κ n [] u h = absurd (omega arith)
 keyed-top κ n (x ∷ m) u h = go (at κ n x) refl h (keyed-top κ n m (u .1))
   where
     go : (t : Bool) → at κ n x ≡ t → 0 < count (prepend t x (cut κ n m)) → (0 < count (cut κ n m) → top κ m ≡ n) → top κ (x ∷ m) ≡ n
-    go true t h rest = omega (arith, at-true (layer κ (x .key)) n t, top-under κ n m (u .1))
+    go true t h rest = omega (arith, eqb-true (layer κ (x .key)) n t, top-under κ n m (u .1))
     go false t h rest = omega (arith, at-below (layer κ (x .key)) n t (u .0), rest (omega (arith, count-prepend x (cut κ n m))))
 
 -- what a node holds
@@ -118,8 +110,8 @@ on-top κ (x ∷ m) = inr (go (on-top κ m))
 
     deeper : (y : Item) → Has m y → layer κ (y .key) ≡ top κ m → (t : Bool) → eqb (max (layer κ (x .key)) (top κ m)) (layer κ (x .key)) ≡ t
         → (z : Item) × Has (x ∷ m) z × (layer κ (z .key) ≡ top κ (x ∷ m))
-    deeper y h e true t = here (at-true _ _ t)
-    deeper y h e false t = (y, has-append-right (x ∷ []) m y h, omega (arith, at-false _ _ t))
+    deeper y h e true t = here (eqb-true _ _ t)
+    deeper y h e false t = (y, has-append-right (x ∷ []) m y h, omega (arith, eqb-false _ _ t))
 
     go : (m ≡ []) ⊎ ((y : Item) × Has m y × (layer κ (y .key) ≡ top κ m)) → (y : Item) × Has (x ∷ m) y × (layer κ (y .key) ≡ top κ (x ∷ m))
     go (inl e) = here (omega (arith, ap (top κ) e))
@@ -134,7 +126,7 @@ node-law κ = record {
   whole = λ n m. flat-cut (at κ n) m;
   layers = λ n m.
       cut-parted (at κ n) (λ x. layer κ (x .key) ≢ n) (λ x. layer κ (x .key) ≡ n) (λ _. Unit {0})
-      (λ x t _. at-true (layer κ (x .key)) n t) (λ x t _. at-false (layer κ (x .key)) n t) m (all-trivial m);
+      (λ x t _. eqb-true (layer κ (x .key)) n t) (λ x t _. eqb-false (layer κ (x .key)) n t) m (all-trivial m);
   under-top = λ m. all-weaker (λ x. layer κ (x .key) < suc (top κ m)) (λ x. layer κ (x .key) ≤ top κ m) (λ x l. omega arith) m (under-top κ m);
   on-top = on-top κ;
 }

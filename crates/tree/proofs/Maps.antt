@@ -1,64 +1,57 @@
 -- The laws of maps. Assumes nothing.
 use mathlib.Core.Path.{_≡_, refl, ap, sym, subst, _∙_}
 use mathlib.Core.Bool.{Bool, true, false, cond}
-use mathlib.Core.List.{List, [], _∷_, _++_}
-use mathlib.Core.Logic.{_≢_}
+use mathlib.Core.List.{List, [], _∷_}
+use mathlib.Core.Logic.{_≢_, ⊎-elim}
 use Prim.Native.Nat.{ℕ}
 use native.Mathlib.Omega.{arith}
-use Rattle.std.specs.declared.option.Option.{Option}
 use Rattle.std.specs.declared.option.Option.the-variants.{Some, None}
 use Rattle.std.specs.shelf.Lists.{All}
 use Rattle.std.proofs.shelf.Elements.{all-weaker}
+use Rattle.std.proofs.shelf.Tests.{cases-bool, cond-both}
 use Rattle.std.proofs.shelf.Ways.{tells}
 use Rattle.bytes.specs.Order.{before}
 use Rattle.bytes.proofs.Orders.{before-self, before-trans, before-neither, before-one-way}
-use Rattle.tree.specs.Map.{Is-key, Is-record, Item, Map, Before-all, Rising, Is-map, insert, delete, lookup}
+use Rattle.tree.specs.Map.{Is-key, Is-record, Item, Map, Before-all, Rising, insert, delete, lookup}
 use Rattle.tree.specs.MapLaws.{Map-laws}
 
 -- what is known of a new item and of every old one
 
 all-insert : (P : Item → Type 0) (k v : List ℕ) (m : Map) → P (record { key = k; value = v }) → All P m → All P (insert k v m)
 all-insert P k v [] p h = (p, tt)
-all-insert P k v (x ∷ m) p h = go (before (x .key) k) (before k (x .key)) (all-insert P k v m p (h .1))
-  where
-    go : (s t : Bool) → All P (insert k v m)
-        → All P (cond s (x ∷ insert k v m) (cond t (record { key = k; value = v } ∷ (x ∷ m)) (record { key = k; value = v } ∷ m)))
-    go true t rest = (h .0, rest)
-    go false true rest = (p, h)
-    go false false rest = (p, h .1)
+all-insert P k v (x ∷ m) p h =
+    cond-both (before (x .key) k) _ _ (All P)
+    (λ _. (h .0, all-insert P k v m p (h .1)))
+    (λ _. cond-both (before k (x .key)) _ _ (All P) (λ _. (p, h)) (λ _. (p, h .1)))
 
 all-delete : (P : Item → Type 0) (k : List ℕ) (m : Map) → All P m → All P (delete k m)
 all-delete P k [] h = tt
-all-delete P k (x ∷ m) h = go (before (x .key) k) (before k (x .key)) (all-delete P k m (h .1))
-  where
-    go : (s t : Bool) → All P (delete k m) → All P (cond s (x ∷ delete k m) (cond t (x ∷ m) m))
-    go true t rest = (h .0, rest)
-    go false true rest = h
-    go false false rest = h .1
+all-delete P k (x ∷ m) h =
+    cond-both (before (x .key) k) _ _ (All P) (λ _. (h .0, all-delete P k m (h .1))) (λ _. cond-both (before k (x .key)) _ _ (All P) (λ _. h) (λ _. h .1))
 
 -- rising lists stay rising
 
 pub before-all-trans : (j k : List ℕ) (m : Map) → before j k ≡ true → Before-all k m → Before-all j m
 before-all-trans j k m h = all-weaker (λ x. before k (x .key) ≡ true) (λ x. before j (x .key) ≡ true) (λ x. before-trans j k (x .key) h) m
 
+before-all-same : (j k : List ℕ) (m : Map) → before j k ≡ false → before k j ≡ false → Before-all j m → Before-all k m
+before-all-same j k m p q h = subst (λ i. Before-all i m) (before-neither j k p q) h
+
 rising-insert : (k v : List ℕ) (m : Map) → Rising m → Rising (insert k v m)
 rising-insert k v [] r = (tt, tt)
-rising-insert k v (x ∷ m) r = go (before (x .key) k) refl (before k (x .key)) refl (rising-insert k v m (r .1))
-  where
-    go : (s : Bool) → before (x .key) k ≡ s → (t : Bool) → before k (x .key) ≡ t → Rising (insert k v m)
-        → Rising (cond s (x ∷ insert k v m) (cond t (record { key = k; value = v } ∷ (x ∷ m)) (record { key = k; value = v } ∷ m)))
-    go true p t q rest = (all-insert (λ y. before (x .key) (y .key) ≡ true) k v m p (r .0), rest)
-    go false p true q rest = ((q, before-all-trans k (x .key) m q (r .0)), r)
-    go false p false q rest = (subst (λ j. Before-all j m) (before-neither (x .key) k p q) (r .0), r .1)
+rising-insert k v (x ∷ m) r =
+    cond-both (before (x .key) k) _ _ Rising
+    (λ p. (all-insert (λ y. before (x .key) (y .key) ≡ true) k v m p (r .0), rising-insert k v m (r .1)))
+    (λ p. cond-both (before k (x .key)) _ _ Rising
+    (λ q. ((q, before-all-trans k (x .key) m q (r .0)), r))
+    (λ q. (before-all-same (x .key) k m p q (r .0), r .1)))
 
 rising-delete : (k : List ℕ) (m : Map) → Rising m → Rising (delete k m)
 rising-delete k [] r = tt
-rising-delete k (x ∷ m) r = go (before (x .key) k) (before k (x .key)) (rising-delete k m (r .1))
-  where
-    go : (s t : Bool) → Rising (delete k m) → Rising (cond s (x ∷ delete k m) (cond t (x ∷ m) m))
-    go true t rest = (all-delete (λ y. before (x .key) (y .key) ≡ true) k m (r .0), rest)
-    go false true rest = r
-    go false false rest = r .1
+rising-delete k (x ∷ m) r =
+    cond-both (before (x .key) k) _ _ Rising
+    (λ _. (all-delete (λ y. before (x .key) (y .key) ≡ true) k m (r .0), rising-delete k m (r .1)))
+    (λ _. cond-both (before k (x .key)) _ _ Rising (λ _. r) (λ _. r .1))
 
 -- look-ups
 
@@ -66,6 +59,12 @@ rising-delete k (x ∷ m) r = go (before (x .key) k) (before k (x .key)) (rising
 lookup-before : (k : List ℕ) (m : Map) → Before-all k m → lookup k m ≡ None
 lookup-before k [] h = refl
 lookup-before k (x ∷ m) h = rw (before-one-way k (x .key) (h .0), h .0)
+
+-- what is not after a first key is not in the rest
+lookup-not-after : (k : List ℕ) (x : Item) (m : Map) → Before-all (x .key) m → before (x .key) k ≡ false → lookup k m ≡ None
+lookup-not-after k x m h p =
+    lookup-before k m
+    (⊎-elim (λ q. before-all-trans k (x .key) m q h) (λ q. before-all-same (x .key) k m p q h) (cases-bool (before k (x .key))))
 
 inserted : (k v : List ℕ) (m : Map) → lookup k (insert k v m) ≡ Some v
 inserted k v [] = rw (before-self k)
@@ -85,8 +84,7 @@ deleted : (k : List ℕ) (m : Map) → Rising m → lookup k (delete k m) ≡ No
 deleted k [] r = refl
 deleted k (x ∷ m) r =
     let rest = deleted k m (r .1) in
-    let same = before-neither (x .key) k in
-    let gone : (x .key ≡ k) → lookup k m ≡ None = λ e. lookup-before k m (subst (λ j. Before-all j m) e (r .0)) in
+    let gone = lookup-not-after k x m (r .0) in
     grind (arith, tells)
 
 delete-other : (k j : List ℕ) (m : Map) → Rising m → j ≢ k → lookup j (delete k m) ≡ lookup j m
@@ -95,7 +93,7 @@ delete-other k j (x ∷ m) r ne =
     let rest = delete-other k j m (r .1) ne in
     let same = before-neither (x .key) k in
     let apart = before-neither k j in
-    let none : (before j (x .key) ≡ true) → lookup j m ≡ None = λ e. lookup-before j m (before-all-trans j (x .key) m e (r .0)) in
+    let none = lookup-not-after j x m (r .0) in
     grind (arith, tells)
 
 insert-same : (k v : List ℕ) (m : Map) → Rising m → lookup k m ≡ Some v → insert k v m ≡ m
@@ -137,14 +135,6 @@ first-same x y m n r s same = go (before (x .key) (y .key)) refl (before (y .key
         let self = before-self (x .key) in
         let v : x .value ≡ y .value = grind (arith, tells) in
         λ i. record { key = k i; value = v i }
-
--- what is not after a first key is not in the rest
-lookup-not-after : (k : List ℕ) (x : Item) (m : Map) → Before-all (x .key) m → before (x .key) k ≡ false → lookup k m ≡ None
-lookup-not-after k x m h p = go (before k (x .key)) refl
-  where
-    go : (t : Bool) → before k (x .key) ≡ t → lookup k m ≡ None
-    go true q = lookup-before k m (before-all-trans k (x .key) m q h)
-    go false q = lookup-before k m (subst (λ j. Before-all j m) (before-neither (x .key) k p q) h)
 
 rest-same : (x : Item) (m n : Map) → Before-all (x .key) m → Before-all (x .key) n → (k : List ℕ) → lookup k (x ∷ m) ≡ lookup k (x ∷ n) → lookup k m ≡ lookup k n
 rest-same x m n h i k e =

@@ -1,27 +1,20 @@
 -- Which nodes a change makes: those of the changed path are nodes of the changed tree, and with the nodes that were there they are all of
 -- them. What is said of each node is said for any P. Assumes nothing.
-use mathlib.Core.Path.{_≡_, refl, ap, sym, subst, _∙_}
-use mathlib.Core.Bool.{Bool, true, false, cond}
+use mathlib.Core.Path.{_≡_, ap, sym, subst}
 use mathlib.Core.List.{List, [], _∷_, _++_, map}
-use Prim.Native.Nat.{ℕ, zero, suc, _<_}
+use Prim.Native.Nat.{ℕ, zero, suc}
 use native.Mathlib.Omega.{arith}
-use lib.ListN.{length}
-use Rattle.std.specs.declared.option.Option.{Option}
 use Rattle.std.specs.declared.option.Option.the-variants.{Some, None}
 use Rattle.std.specs.shelf.Lists.{All}
 use Rattle.std.proofs.shelf.Elements.{all-append}
 use Rattle.digest.specs.Kind.{Kind}
-use Rattle.digest.specs.Layer.{layer}
-use Rattle.tree.specs.Change.{seal, placed, upward, one, both}
+use Rattle.tree.specs.Change.{seal, placed, one}
 use Rattle.tree.specs.Map.{Item, Map}
-use Rattle.tree.specs.Path.{place, has, gap-of, path, Sides, sides, Split-path, split-path}
+use Rattle.tree.specs.Path.{has, path}
 use Rattle.tree.specs.Row.{Row, end, more, first-gap, last-gap, gap-at, set-first, meet, graft}
-use Rattle.tree.specs.Tree.{at, cut, Links, digest, below, row, Placed, placed-at, over-gaps, node-and, nodes-below}
-use Rattle.tree.proofs.Layers.{Under, at-below, first-under, last-under, under-append}
-use Rattle.tree.proofs.Paths.{below-none, seal-row, step, split-path-at, split-path-past}
-use Rattle.tree.proofs.Places.{Around, around-gaps, gap-absent, gap-of-past}
-use Rattle.tree.proofs.Rows.{cut-append, cut-at, cut-past}
-use Rattle.tree.proofs.Splits.{left-gap, right-gap}
+use Rattle.tree.specs.Tree.{cut, Links, digest, row, Placed, placed-at, over-gaps, nodes-below}
+use Rattle.tree.proofs.Layers.{Under}
+use Rattle.tree.proofs.Paths.{below-none, seal-row}
 
 pub all-parts : {X : Type 0} (P : X → Type 0) (xs ys : List X) → All P (xs ++ ys) → All P xs × All P ys
 all-parts P [] ys h = (tt, h)

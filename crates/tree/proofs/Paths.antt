@@ -1,25 +1,25 @@
 -- The folds over a path: splitting and joining undo each other, and an insert and a delete give the path in the changed map's tree.
 -- Assumes nothing.
-use mathlib.Core.Path.{_≡_, refl, ap, ap₂, sym, subst, _∙_}
-use mathlib.Core.Bool.{Bool, true, false, cond}
+use mathlib.Core.Path.{_≡_, refl, ap, sym, _∙_}
+use mathlib.Core.Bool.{Bool, true, false}
 use mathlib.Core.List.{List, [], _∷_, _++_}
 use Prim.Native.Nat.{ℕ, zero, suc, _<_}
 use native.Mathlib.Omega.{arith}
 use lib.Dec.{eqb}
 use lib.ListN.{length}
-use Rattle.std.specs.declared.option.Option.{Option}
 use Rattle.std.specs.declared.option.Option.the-variants.{Some, None}
+use Rattle.std.proofs.shelf.Tests.{cond-both, eqb-true}
 use Rattle.digest.specs.Kind.{Kind}
 use Rattle.digest.specs.Layer.{layer}
-use Rattle.tree.specs.Change.{seal, link-up, left-up, right-up, split, join, with-item, insert-up, delete-up}
+use Rattle.tree.specs.Change.{seal, link-up, left-up, right-up, split, join, insert-up, delete-up}
 use Rattle.tree.specs.Map.{Item, Map}
-use Rattle.tree.specs.Path.{place, has, gap-of, path, Sides, sides, Split-path, split-path}
-use Rattle.tree.specs.Row.{Row, end, more, prepend, map-row, gap-at, relink}
+use Rattle.tree.specs.Path.{place, has, gap-of, path, sides, Split-path, split-path}
+use Rattle.tree.specs.Row.{Row, end, more, prepend, map-row, gap-at}
 use Rattle.tree.specs.Tree.{at, cut, Links, leaf, digest, below, row}
-use Rattle.tree.proofs.Layers.{Under, at-true, at-below, first-under, last-under, under-append}
+use Rattle.tree.proofs.Layers.{Under, at-below, first-under, last-under, under-append}
 use Rattle.tree.proofs.Places.{Around, around-gaps, place-absent, has-absent, gap-absent, place-at, has-at, gap-of-at, place-past, has-past, gap-of-past}
 use Rattle.tree.proofs.Rows.{cut-at, gap-before, gap-after}
-use Rattle.tree.proofs.Splits.{left-gap, right-gap, keys-in, row-append, row-left, row-right, row-same, insert-at, insert-above, delete-at, delete-above, replace-at, replace-above}
+use Rattle.tree.proofs.Splits.{left-gap, right-gap, row-append, row-left, row-right, row-same, insert-at, insert-above, delete-at, delete-above, replace-at, replace-above}
 
 -- the link to the node of a map is that of the map
 
@@ -73,32 +73,32 @@ module _ (κ : Kind) (k : List ℕ) where
       let link = path-link κ n k (left-gap κ n a ++ right-gap κ n b) (under-append κ n (left-gap κ n a) (right-gap κ n b) (last-under κ n a u) (first-under κ n b v)) in
       rw (rest, link, ← (row-append κ n a b), gap-absent κ n k a b s)
 
+-- a node above the split path of a gap
+abbrev pub step : Kind → ℕ → List ℕ → Links → Map → Split-path
+step κ n k r m = record { upper = r ∷ split-path κ n k m .upper; lower = split-path κ n k m .lower }
+
 -- one step of a split path: at the key's layer, above it, and where the key is not there
 module _ (κ : Kind) (n : ℕ) (k : List ℕ) (a b : Map) (s : Around k a b) where
-  abbrev pub step : Links → Map → Split-path
-  step r m = record { upper = r ∷ split-path κ n k m .upper; lower = split-path κ n k m .lower }
-
   pub split-path-at : (x : Item) → x .key ≡ k → at κ n x ≡ true
       → split-path κ (suc n) k (a ++ (x ∷ b)) ≡ record { upper = row κ n (a ++ (x ∷ b)) ∷ []; lower = sides κ n (left-gap κ n a) (right-gap κ n b) }
   split-path-at x e t = rw (has-at κ n k a b s x e t, place-at κ n k a b s x e t, cut-at (at κ n) a x b t, gap-before, gap-after)
 
-  pub split-path-past : (x : Item) → at κ n x ≡ false → split-path κ (suc n) k (a ++ (x ∷ b)) ≡ step (row κ n (a ++ (x ∷ b))) (left-gap κ n a ++ (x ∷ right-gap κ n b))
+  pub split-path-past : (x : Item) → at κ n x ≡ false → split-path κ (suc n) k (a ++ (x ∷ b)) ≡ step κ n k (row κ n (a ++ (x ∷ b))) (left-gap κ n a ++ (x ∷ right-gap κ n b))
   split-path-past x t = rw (gap-of-past κ n k a b s x t, has-past κ n k a b s x t)
 
-  pub split-path-absent : split-path κ (suc n) k (a ++ b) ≡ step (row κ n (a ++ b)) (left-gap κ n a ++ right-gap κ n b)
+  pub split-path-absent : split-path κ (suc n) k (a ++ b) ≡ step κ n k (row κ n (a ++ b)) (left-gap κ n a ++ right-gap κ n b)
   split-path-absent = rw (gap-absent κ n k a b s, has-absent κ n k a b s)
+
+-- what holds of both forms of a split path holds of it
+pub split-path-cases : (κ : Kind) (n : ℕ) (k : List ℕ) (m : Map) (Q : Split-path → Type 0)
+    → Q (record { upper = row κ n m ∷ []; lower = sides κ n (gap-at (place k (row κ n m)) (cut κ n m)) (gap-at (suc (place k (row κ n m))) (cut κ n m)) })
+    → Q (step κ n k (row κ n m) (gap-of κ n k m)) → Q (split-path κ (suc n) k m)
+split-path-cases κ n k m Q at-key above = cond-both (has k (row κ n m)) _ _ Q (λ _. at-key) (λ _. above)
 
 pub split-path-link : (κ : Kind) (n : ℕ) (k : List ℕ) (m : Map) → Under κ n m → link-up κ (split-path κ n k m .upper) ≡ below κ n m
 split-path-link κ zero k m u = refl
-split-path-link κ (suc n) k m u = go (has k (row κ n m))
-  where
-    go : (t : Bool)
-        → link-up κ (cond {A = Split-path} t
-        (record { upper = row κ n m ∷ []; lower = sides κ n (gap-at (place k (row κ n m)) (cut κ n m)) (gap-at (suc (place k (row κ n m))) (cut κ n m)) })
-        (record { upper = row κ n m ∷ split-path κ n k (gap-of κ n k m) .upper; lower = split-path κ n k (gap-of κ n k m) .lower }) .upper)
-        ≡ below κ (suc n) m
-    go true = seal-row κ n m u
-    go false = seal-row κ n m u
+split-path-link κ (suc n) k m u =
+    split-path-cases κ n k m (λ (p : Split-path). link-up κ (p .upper) ≡ below κ (suc n) m) (seal-row κ n m u) (seal-row κ n m u)
 
 -- an insert
 module _ (κ : Kind) (x : Item) where
@@ -166,7 +166,7 @@ module _ (κ : Kind) (x : Item) where
             halves,
             has-at κ n k a b s y e t′,
             place-at κ n k a b s y e t′,
-            at-true (layer κ k) n t,
+            eqb-true (layer κ k) n t,
             ← (replace-at κ n a y x b t′ t),
           )
       go left right halves rest false t =

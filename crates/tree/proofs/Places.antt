@@ -1,20 +1,20 @@
 -- Where a key is or belongs in a map, and in the node at a layer. Assumes nothing.
-use mathlib.Core.Path.{_≡_, refl, ap, sym, subst, _∙_}
-use mathlib.Core.Bool.{Bool, true, false, not, cond}
+use mathlib.Core.Path.{_≡_, refl, subst}
+use mathlib.Core.Bool.{Bool, true, false, not}
 use mathlib.Core.List.{List, [], _∷_, _++_}
-use Prim.Native.Nat.{ℕ, zero, suc}
+use Prim.Native.Nat.{ℕ}
 use Rattle.std.specs.declared.option.Option.{Option}
 use Rattle.std.specs.shelf.Lists.{All}
 use Rattle.bytes.specs.Order.{before}
-use Rattle.bytes.proofs.Orders.{before-self, before-trans, before-neither, before-one-way}
+use Rattle.bytes.proofs.Orders.{before-self, before-neither, before-one-way}
 use Rattle.digest.specs.Kind.{Kind}
 use Rattle.tree.specs.Laws.{Parted}
 use Rattle.tree.specs.Map.{Item, Map, Before-all, Rising, insert, delete}
 use Rattle.tree.specs.Path.{place, has, gap-of}
-use Rattle.tree.specs.Row.{Row, end, more, map-row, count, first-gap, last-gap, gap-at, set-first, meet, graft}
+use Rattle.tree.specs.Row.{Row, end, more, map-row, count, set-first, meet, graft}
 use Rattle.tree.specs.Tree.{at, cut, Links, leaf, below, row}
 use Rattle.tree.proofs.Maps.{before-all-trans}
-use Rattle.tree.proofs.Rows.{cut-parted, cut-append, cut-at, cut-past, gap-meet, map-count, parted-first, parted-last}
+use Rattle.tree.proofs.Rows.{cut-parted, cut-append, cut-past, gap-meet, parted-first, parted-last}
 use Rattle.tree.proofs.Splits.{left-gap, right-gap, keys-in, row-append, row-at, row-past}
 
 -- every key of the map comes before k

@@ -1,9 +1,9 @@
 -- An insert and a delete rebuild the tree. Assumes nothing.
 use mathlib.Core.Path.{_≡_, refl, ap, sym, subst, _∙_}
-use mathlib.Core.Bool.{Bool, true, false, cond, _||_}
+use mathlib.Core.Bool.{Bool, true, false}
 use mathlib.Core.List.{List, [], _∷_, _++_, map}
 use mathlib.Core.Logic.{_⊎_, inl, inr}
-use Prim.Native.Nat.{ℕ, zero, suc, max, _+_, _-_, _<_, _≤_}
+use Prim.Native.Nat.{ℕ, suc, max, _-_, _<_, _≤_}
 use native.Mathlib.Omega.{arith}
 use lib.ListN.{length}
 use Rattle.std.specs.shelf.Lists.{All, Has}
@@ -11,16 +11,15 @@ use Rattle.std.proofs.shelf.Elements.{all-append, all-has, all-has-itself, all-
 use Rattle.std.proofs.shelf.Tests.{cases-lt}
 use Rattle.digest.specs.Kind.{Kind}
 use Rattle.digest.specs.Layer.{layer}
-use Rattle.tree.specs.Change.{insert-up, delete-up, join, raise, Rebuilt, placed, upward, rebuilt, one, both, grown, shrunk, insert-path, delete-path, handed}
+use Rattle.tree.specs.Change.{insert-up, raise, Rebuilt, upward, rebuilt, one, both, grown, shrunk, insert-path, delete-path, handed}
 use Rattle.tree.specs.Laws.{Rebuilds, Insert-law, Delete-law}
 use Rattle.tree.specs.Map.{Item, Map, insert, delete}
-use Rattle.tree.specs.Path.{place, has, gap-of, path, Sides, sides, Split-path, split-path}
-use Rattle.tree.specs.Row.{Row, end, more, gap-at}
+use Rattle.tree.specs.Path.{has, gap-of, path, Split-path, split-path}
 use Rattle.tree.specs.Tree.{cut, Links, bytes-of, row, top, root, Placed, placed-at, over-gaps, nodes-below, nodes, wide, any-wide, crowded}
-use Rattle.tree.proofs.Changes.{layers-of, over, under, path-layers, sides-layers, split-layers, gap-of-all, path-sound, split-sound, join-complete, delete-complete, insert-complete, known, known-layers, known-sound, known-complete}
-use Rattle.tree.proofs.Layers.{Under, under-le, under-top, under-left, under-right, under-append, top-insert, cut-above, top-under}
+use Rattle.tree.proofs.Changes.{layers-of, over, under, path-layers, split-layers, gap-of-all, path-sound, split-sound, delete-complete, insert-complete, known, known-layers, known-sound, known-complete}
+use Rattle.tree.proofs.Layers.{Under, under-top, under-left, under-right, under-append, top-insert}
 use Rattle.tree.proofs.Nodes.{all-parts, placed-one}
-use Rattle.tree.proofs.Paths.{path-length, insert-new, insert-known, delete-known, delete-unknown}
+use Rattle.tree.proofs.Paths.{path-length, split-path-cases, insert-new, insert-known, delete-known, delete-unknown}
 use Rattle.tree.proofs.Places.{Around, Located, absent, present, locate, insert-absent, insert-present, delete-absent, delete-present}
 use Rattle.tree.proofs.Widths.{all-narrow, narrow-all}
 use Rattle.tree.proofs.Tops.{up, up-is, raise-path, insert-above-root, delete-top, shrunk-path}
@@ -108,14 +107,7 @@ rest-of [] = []
 rest-of (r ∷ rs) = rs
 
 split-path-head : (κ : Kind) (n : ℕ) (k : List ℕ) (m : Map) → split-path κ (suc n) k m .upper ≡ row κ n m ∷ rest-of (split-path κ (suc n) k m .upper)
-split-path-head κ n k m =
-    go (has k (row κ n m)) (record { upper = row κ n m ∷ []; lower = sides κ n (gap-at (place k (row κ n m)) (cut κ n m)) (gap-at (suc (place k (row κ n m))) (cut κ n m)) })
-    (record { upper = row κ n m ∷ split-path κ n k (gap-of κ n k m) .upper; lower = split-path κ n k (gap-of κ n k m) .lower }) refl refl
-  where
-    go : (t : Bool) (p q : Split-path) → p .upper ≡ row κ n m ∷ rest-of (p .upper) → q .upper ≡ row κ n m ∷ rest-of (q .upper)
-        → cond t p q .upper ≡ row κ n m ∷ rest-of (cond t p q .upper)
-    go true p q e f = e
-    go false p q e f = f
+split-path-head κ n k m = split-path-cases κ n k m (λ (p : Split-path). p .upper ≡ row κ n m ∷ rest-of (p .upper)) refl refl
 
 -- a path as high as the changed tree
 raised : (κ : Kind) (x : Item) (m : Map) (n : ℕ) → max (layer κ (x .key)) (top κ m) ≡ n

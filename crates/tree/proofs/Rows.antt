@@ -2,7 +2,7 @@
 use mathlib.Core.Path.{_≡_, refl, ap, sym, _∙_}
 use mathlib.Core.Bool.{Bool, true, false}
 use mathlib.Core.List.{List, [], _∷_, _++_, append-nil}
-use Prim.Native.Nat.{ℕ, zero, suc}
+use Prim.Native.Nat.{suc}
 use Rattle.std.specs.shelf.Lists.{All}
 use Rattle.tree.specs.Laws.{Parted}
 use Rattle.tree.specs.Row.{Row, end, more, prepend, cut-by, flat, map-row, count, first-gap, last-gap, gap-at, set-first, meet, graft, front, back, relink, omit, replace}

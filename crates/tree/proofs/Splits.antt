@@ -1,5 +1,5 @@
 -- The node of a map in two parts, and those of the parts. Assumes nothing.
-use mathlib.Core.Path.{_≡_, refl}
+use mathlib.Core.Path.{_≡_}
 use mathlib.Core.Bool.{true, false}
 use mathlib.Core.List.{_∷_, _++_}
 use Prim.Native.Nat.{ℕ}

@@ -1,21 +1,21 @@
 -- Trees seen from above their root: a path that is raised, a split below a higher key, a join below a lower root. Assumes nothing.
-use mathlib.Core.Path.{_≡_, refl, ap, sym, subst, _∙_}
-use mathlib.Core.Bool.{Bool, true, false, cond}
+use mathlib.Core.Path.{_≡_, refl, ap, sym, subst}
+use mathlib.Core.Bool.{true}
 use mathlib.Core.List.{List, [], _∷_, _++_, map}
-use Prim.Native.Nat.{ℕ, zero, suc, max, _+_, _-_, _<_, _≤_}
+use Prim.Native.Nat.{ℕ, zero, suc, _+_}
 use native.Mathlib.Omega.{arith}
-use lib.ListN.{length}
 use Rattle.std.specs.declared.option.Option.{Option}
 use Rattle.std.specs.shelf.Lists.{All}
+use Rattle.std.proofs.shelf.Tests.{eq-eqb}
 use Rattle.digest.specs.Kind.{Kind}
 use Rattle.digest.specs.Layer.{layer}
-use Rattle.tree.specs.Change.{link-up, insert-up, raise, rebuilt, shrunk, upward, one, both}
+use Rattle.tree.specs.Change.{raise, rebuilt, shrunk, upward, one, both}
 use Rattle.tree.specs.Map.{Item, Map}
 use Rattle.tree.specs.Path.{gap-of, path, sides, Split-path, split-path}
 use Rattle.tree.specs.Row.{Row, end, more, map-row, count, graft}
 use Rattle.tree.specs.Tree.{at, cut, Leaf, Links, leaf, below, row, top, Placed, over-gaps, nodes-below}
-use Rattle.tree.proofs.Changes.{layers-of, over, under, sides-layers, split-complete, join-complete}
-use Rattle.tree.proofs.Layers.{Under, at-self, under-le, under-append, cut-above, row-above, keyless-under, keyed-top}
+use Rattle.tree.proofs.Changes.{layers-of, under, sides-layers, split-complete, join-complete}
+use Rattle.tree.proofs.Layers.{Under, under-le, under-append, cut-above, row-above, keyless-under, keyed-top}
 use Rattle.tree.proofs.Nodes.{graft-from, graft-parts, inner, made, placed-rest}
 use Rattle.tree.proofs.Paths.{path-link, split-path-at}
 use Rattle.tree.proofs.Places.{Around}
@@ -69,7 +69,7 @@ module _ (κ : Kind) (P : Placed → Type 0) where
   insert-above-root j n a x b s u v e new old =
       let N = up j n in
       let f = nodes-below κ N in
-      let t : at κ N x ≡ true = rw e (at-self N) in
+      let t : at κ N x ≡ true = rw e (eq-eqb N N refl) in
       let ua = under-up κ j n a u in
       let ub = under-up κ j n b v in
       let new′ = subst (λ (p : Split-path). All P (upward (layers-of p))) (split-path-at κ N (x .key) a b s x refl t) new in
@@ -94,7 +94,7 @@ module _ (κ : Kind) (P : Placed → Type 0) where
   delete-top j n k a x b s u v e new old =
       let N = up j n in
       let f = nodes-below κ N in
-      let t : at κ N x ≡ true = rw e (at-self N) in
+      let t : at κ N x ≡ true = rw e (eq-eqb N N refl) in
       let cut-is : cut κ N (a ++ (x ∷ b)) ≡ graft (end a) x (end b) = rw (cut-at (at κ N) a x b t, cut-above κ N a (under-up κ j n a u), cut-above κ N b (under-up κ j n b v)) in
       let gaps = graft-parts P f (end a) x (end b) (subst (λ r. All P (over-gaps f r)) cut-is (inner κ P N (a ++ (x ∷ b)) old)) in
       join-complete κ P n k a b s u v new (descend j n a u (gaps .0)) (descend j n b v (gaps .1))

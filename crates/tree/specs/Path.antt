@@ -16,8 +16,8 @@ use Prim.Native.Nat.{ℕ, zero, suc}
 use Rattle.bytes.specs.Order.{before}
 use Rattle.digest.specs.Kind.{Kind}
 use Rattle.tree.specs.Map.{Map}
-use Rattle.tree.specs.Row.{Row, end, more, first-gap, last-gap, gap-at}
-use Rattle.tree.specs.Tree.{Links, cut, row, top}
+use Rattle.tree.specs.Row.{end, more, first-gap, last-gap, gap-at}
+use Rattle.tree.specs.Tree.{Links, cut, row}
 
 -- in a node whose keys rise, the keys before k come first
 abbrev pub place : List ℕ → Links → ℕ
