@@ -20,8 +20,10 @@ pub record Encodes (c : ℕ) (s : List ℕ) (n : Node) : Type 0 where
   pub is : s ≡ encode c n
 
 pub record Encodings (c : ℕ) : Type 0 where
-  -- an encoding is that of one node, however many its entries are and however long its keys
+  -- an encoding is that of one node, however many its entries are and however long its keys; as a list of numbers, since with more than
+  -- 255 entries it is no byte string
   pub injective : (m n : Node) → Linked m → Linked n → encode c m ≡ encode c n → m ≡ n
+  -- that is asked of no well-formed node
   pub linked : (n : Node) → WellFormed n → Linked n
   -- what is decoded encodes to the same bytes
   pub encodes : (s : List ℕ) (n : Node) → decode c s ≡ Some n → Encodes c s n

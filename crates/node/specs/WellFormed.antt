@@ -1,12 +1,15 @@
 -- Which nodes there are.
 --
---   Digest        32 bytes
+--   Digest        32 numbers
 --   Link          a digest, or none
---   Linked        a node whose links are digests or none
+--   EntryLinked   an entry whose links are digests, but for the one after the key, which may be none
+--   Linked        a node of such entries, with a first link
 --   EntryFormed   an entry with a key of 1 to 64 bytes
 --   WellFormed    a node of at most 64 entries
 --   well-formed   the same as a test
 --   Bytes         numbers below 256
+--   LinkBytes     a link made of bytes
+--   EntryBytes    an entry made of bytes
 --   NodeBytes     a node made of bytes
 --
 -- That keys rise is no matter of form. Assumes nothing.

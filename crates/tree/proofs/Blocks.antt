@@ -1,22 +1,22 @@
--- The nodes of a map that is not crowded are well formed, and its blocks fit a store. Assumes nothing.
-use mathlib.Core.Path.{_≡_}
-use mathlib.Core.Bool.{false}
+-- The nodes of a map that is not crowded are well formed, and its blocks fit a store; so do those of a collision. Assumes nothing.
 use mathlib.Core.List.{List, [], _∷_, map}
+use mathlib.Core.Logic.{⊎-map}
 use Prim.Native.Nat.{ℕ, zero, suc, _≤_}
 use native.Mathlib.Omega.{arith}
 use lib.ListN.{length}
 use Rattle.std.specs.shelf.Lists.{All}
-use Rattle.std.proofs.shelf.Elements.{all-append, all-map, all-weaker}
+use Rattle.std.proofs.shelf.Elements.{all-append, all-has, all-map, all-weaker}
 use Rattle.digest.specs.Kind.{Kind}
 use Rattle.node.specs.Format.{Node}
 use Rattle.node.specs.WellFormed.{Link, EntryFormed, WellFormed, LinkBytes, EntryBytes, NodeBytes}
 use Rattle.node.proofs.OfBytes.{encode-bytes}
 use Rattle.node.proofs.Sizes.{encode-fits}
-use Rattle.tree.specs.Laws.{Parted, Is-block, Block-law}
-use Rattle.tree.specs.Map.{Is-key, Is-record, Item, Map, Is-map}
+use Rattle.tree.specs.Laws.{Parted, Is-block, Kept, Block-law, Equal-kept-roots}
+use Rattle.tree.specs.Map.{Is-key, Is-record, Item, Map}
 use Rattle.tree.specs.Row.{Row, end, more, map-row, first-gap}
 use Rattle.tree.specs.Tree.{at, cut, leaf, entries-of, node-of, bytes-of, below, row, top, Placed, over-gaps, nodes-below, nodes, blocks, crowded}
-use Rattle.tree.proofs.Rows.{cut-parted}
+use Rattle.tree.proofs.Collisions.{equal-roots}
+use Rattle.tree.proofs.Rows.{cut-parted, both-all}
 use Rattle.tree.proofs.Widths.{all-narrow, narrow-few}
 
 -- all of a well-formed node but the number of its entries
@@ -71,11 +71,6 @@ module _ (κ : Kind) where
       let n = top κ m in
       (row-sound n m h, gaps-sound (nodes-below κ n) (below-sound n) (cut κ n m) (cut-parted (at κ n) Keyed Keyed Keyed (λ x _ k. k) (λ x _ k. k) m h))
 
--- what holds of each element by two accounts
-both-all : {X : Type 0} (P Q R : X → Type 0) → ((x : X) → P x → Q x → R x) → (xs : List X) → All P xs → All Q xs → All R xs
-both-all P Q R f [] p q = tt
-both-all P Q R f (x ∷ xs) p q = (f x (p .0) (q .0), both-all P Q R f xs (p .1) (q .1))
-
 -- a node of the tree, as the store takes it
 record Fitting (κ : Kind) (t : Placed) : Type 0 where
   formed : WellFormed (t .node)
@@ -89,22 +84,29 @@ fitting κ t sound few =
       block = record { short = encode-fits (κ .code) (t .node) formed; bytes = encode-bytes (κ .code) (t .node) (omega (arith, κ .code-below)) formed (sound .bytes) };
     }
 
-nodes-fitting : (κ : Kind) (m : Map) → Is-map m → crowded κ m ≡ false → All (Fitting κ) (nodes κ m)
+nodes-fitting : (κ : Kind) (m : Map) → Kept κ m → All (Fitting κ) (nodes κ m)
 unfolding crowded
-nodes-fitting κ m is narrow =
-    both-all (λ t. Sound (t .node)) (λ t. length (t .node .entries) ≤ 64) (Fitting κ) (fitting κ) (nodes κ m) (nodes-sound κ m (is .keys))
-    (all-weaker _ (λ t. length (t .node .entries) ≤ 64) narrow-few (nodes κ m) (all-narrow (nodes κ m) narrow))
+nodes-fitting κ m kept =
+    both-all (λ t. Sound (t .node)) (λ t. length (t .node .entries) ≤ 64) (Fitting κ) (fitting κ) (nodes κ m) (nodes-sound κ m (kept .is-map .keys))
+    (all-weaker _ (λ t. length (t .node .entries) ≤ 64) narrow-few (nodes κ m) (all-narrow (nodes κ m) (kept .narrow)))
 
-blocks-fit : (κ : Kind) (m : Map) → Is-map m → crowded κ m ≡ false → All Is-block (blocks κ m)
+blocks-fit : (κ : Kind) (m : Map) → Kept κ m → All Is-block (blocks κ m)
 unfolding blocks
-blocks-fit κ m is narrow =
+blocks-fit κ m kept =
     all-append Is-block (map (λ t. bytes-of κ (t .node)) (nodes κ m)) (map (λ x. x .value) m)
-    (all-map Is-block (λ (t : Placed). bytes-of κ (t .node)) (nodes κ m) (all-weaker (Fitting κ) (λ t. Is-block (bytes-of κ (t .node))) (λ t f. f .block) (nodes κ m) (nodes-fitting κ m is narrow)))
+    (all-map Is-block (λ (t : Placed). bytes-of κ (t .node)) (nodes κ m)
+    (all-weaker (Fitting κ) (λ t. Is-block (bytes-of κ (t .node))) (λ t f. f .block) (nodes κ m) (nodes-fitting κ m kept)))
     (all-map Is-block (λ (x : Item). x .value) m
-    (all-weaker (λ (x : Item). Is-record (x .value)) (λ x. Is-block (x .value)) (λ x r. record { short = omega (arith, r .short); bytes = r .bytes }) m (is .records)))
+    (all-weaker (λ (x : Item). Is-record (x .value)) (λ x. Is-block (x .value)) (λ x r. record { short = omega (arith, r .sized); bytes = r .bytes }) m (kept .is-map .records)))
 
 pub block-law : (κ : Kind) → Block-law κ
 block-law κ = record {
-  well-formed = λ m is narrow. all-weaker (Fitting κ) (λ t. WellFormed (t .node)) (λ t f. f .formed) (nodes κ m) (nodes-fitting κ m is narrow);
+  well-formed = λ m kept. all-weaker (Fitting κ) (λ t. WellFormed (t .node)) (λ t f. f .formed) (nodes κ m) (nodes-fitting κ m kept);
   fit = blocks-fit κ;
 }
+
+pub equal-kept-roots : (κ : Kind) → Equal-kept-roots κ
+equal-kept-roots κ m n km kn e =
+    ⊎-map (λ p. p)
+    (λ c. (c, all-has Is-block (blocks κ m) (c .one) (blocks-fit κ m km) (c .one-in), all-has Is-block (blocks κ n) (c .other) (blocks-fit κ n kn) (c .other-in)))
+    (equal-roots κ m n e)

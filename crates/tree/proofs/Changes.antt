@@ -13,35 +13,49 @@ use Rattle.std.proofs.shelf.Lists.{length-map}
 use Rattle.std.proofs.shelf.Tests.{cond-both, eqb-true}
 use Rattle.digest.specs.Kind.{Kind}
 use Rattle.digest.specs.Layer.{layer}
-use Rattle.tree.specs.Change.{placed, upward, one, both}
+use Rattle.tree.specs.Change.{placed, upward, single, both}
 use Rattle.tree.specs.Map.{Item, Map}
-use Rattle.tree.specs.Path.{place, has, gap-of, path, sides, Split-path, split-path}
+use Rattle.tree.specs.Path.{place, has, gap-of, path, sides, Forked-path, forked-path}
 use Rattle.tree.specs.Row.{gap-at, meet}
 use Rattle.tree.specs.Tree.{at, cut, Links, row, Placed, over-gaps, nodes-below}
 use Rattle.tree.proofs.Layers.{Under, at-below, first-under, last-under, under-append}
 use Rattle.tree.proofs.Nodes.{all-parts, gap-nodes, first-nodes, last-nodes, meet-gap, meet-left, meet-right, meet-again, meet-from, graft-from, graft-parts, none, inner, own, made, placed-rest}
-use Rattle.tree.proofs.Paths.{path-length, split-path-at, split-path-past, split-path-cases}
+use Rattle.tree.proofs.Paths.{path-length, forked-path-at, forked-path-past, forked-path-cases}
 use Rattle.tree.proofs.Places.{Around, around-gaps, gap-absent}
 use Rattle.tree.proofs.Rows.{cut-append, cut-at, cut-past}
 use Rattle.tree.proofs.Splits.{left-gap, right-gap}
 
--- the layers of a split path
-abbrev pub layers-of : Split-path → List (List Links)
-layers-of p = map one (p .upper) ++ map both (p .lower)
+-- the layers of a forked path
+abbrev pub layers-of : Forked-path → List (List Links)
+layers-of p = map single (p .upper) ++ map both (p .lower)
 
-pub path-layers : (κ : Kind) (n : ℕ) (k : List ℕ) (m : Map) → length (map one (path κ n k m)) ≡ n
-path-layers κ n k m = length-map (path κ n k m) one ∙ path-length κ n k m
+-- the row at the head of a forked path
+abbrev pub rest-of : List Links → List Links
+rest-of [] = []
+rest-of (r ∷ rs) = rs
+
+pub forked-path-head : (κ : Kind) (n : ℕ) (k : List ℕ) (m : Map) → forked-path κ (suc n) k m .upper ≡ row κ n m ∷ rest-of (forked-path κ (suc n) k m .upper)
+forked-path-head κ n k m = forked-path-cases κ n k m (λ (p : Forked-path). p .upper ≡ row κ n m ∷ rest-of (p .upper)) refl refl
+
+abbrev pub rest-layers : Forked-path → List (List Links)
+rest-layers p = map single (rest-of (p .upper)) ++ map both (p .lower)
+
+pub head-layers : (r : Links) (p : Forked-path) → p .upper ≡ r ∷ rest-of (p .upper) → layers-of p ≡ single r ∷ rest-layers p
+head-layers r p e = ap (λ (u : List Links). map single u ++ map both (p .lower)) e
+
+pub path-layers : (κ : Kind) (n : ℕ) (k : List ℕ) (m : Map) → length (map single (path κ n k m)) ≡ n
+path-layers κ n k m = length-map (path κ n k m) single ∙ path-length κ n k m
 
 pub sides-layers : (κ : Kind) (n : ℕ) (a b : Map) → length (map both (sides κ n a b)) ≡ n
 sides-layers κ zero a b = refl
 sides-layers κ (suc n) a b = ap suc (sides-layers κ n (left-gap κ n a) (right-gap κ n b))
 
-pub split-layers : (κ : Kind) (n : ℕ) (k : List ℕ) (m : Map) → length (layers-of (split-path κ n k m)) ≡ n
-split-layers κ zero k m = refl
-split-layers κ (suc n) k m =
-    split-path-cases κ n k m (λ (p : Split-path). length (layers-of p) ≡ suc n)
+pub fork-layers : (κ : Kind) (n : ℕ) (k : List ℕ) (m : Map) → length (layers-of (forked-path κ n k m)) ≡ n
+fork-layers κ zero k m = refl
+fork-layers κ (suc n) k m =
+    forked-path-cases κ n k m (λ (p : Forked-path). length (layers-of p) ≡ suc n)
     (ap suc (sides-layers κ n (gap-at (place k (row κ n m)) (cut κ n m)) (gap-at (suc (place k (row κ n m))) (cut κ n m))))
-    (ap suc (split-layers κ n k (gap-of κ n k m)))
+    (ap suc (fork-layers κ n k (gap-of κ n k m)))
 
 module _ (κ : Kind) (P : Placed → Type 0) where
   -- one layer above others
@@ -51,18 +65,18 @@ module _ (κ : Kind) (P : Placed → Type 0) where
   pub under : (n : ℕ) (rs : List Links) (layers : List (List Links)) → length layers ≡ n → All P (upward (rs ∷ layers)) → All P (upward layers) × All P (placed n rs)
   under n rs layers e h = let parts = all-parts P (upward layers) (placed (length layers) rs) h in (parts .0, rw e at (parts .1))
 
-  -- the nodes of a path, of its sides and of a split path are nodes of the tree
+  -- the nodes of a path, of its sides and of a forked path are nodes of the tree
 
   pub gap-of-all : (n : ℕ) (k : List ℕ) (m : Map) → All P (over-gaps (nodes-below κ n) (cut κ n m)) → All P (nodes-below κ n (gap-of κ n k m))
   gap-of-all n k m h =
       cond-both (has k (row κ n m)) _ _ (λ (g : Map). All P (nodes-below κ n g)) (λ _. none κ P n)
       (λ _. gap-nodes P (nodes-below κ n) (place k (row κ n m)) (cut κ n m) h)
 
-  pub path-sound : (n : ℕ) (k : List ℕ) (m : Map) → All P (nodes-below κ n m) → All P (upward (map one (path κ n k m)))
+  pub path-sound : (n : ℕ) (k : List ℕ) (m : Map) → All P (nodes-below κ n m) → All P (upward (map single (path κ n k m)))
   path-sound zero k m h = tt
   path-sound (suc n) k m h =
       let g = gap-of κ n k m in
-      over n (one (row κ n m)) (map one (path κ n k g)) (path-layers κ n k g) (path-sound n k g (gap-of-all n k m (inner κ P n m h))) (own κ P n m [] h tt)
+      over n (single (row κ n m)) (map single (path κ n k g)) (path-layers κ n k g) (path-sound n k g (gap-of-all n k m (inner κ P n m h))) (own κ P n m [] h tt)
 
   pub sides-sound : (n : ℕ) (a b : Map) → All P (nodes-below κ n a) → All P (nodes-below κ n b) → All P (upward (map both (sides κ n a b)))
   sides-sound zero a b h i = tt
@@ -72,9 +86,9 @@ module _ (κ : Kind) (P : Placed → Type 0) where
       let rest = sides-sound n c d (last-nodes P (nodes-below κ n) (cut κ n a) (inner κ P n a h)) (first-nodes P (nodes-below κ n) (cut κ n b) (inner κ P n b i)) in
       over n (row κ n a ∷ (row κ n b ∷ [])) (map both (sides κ n c d)) (sides-layers κ n c d) rest (own κ P n a (row κ n b ∷ []) h (own κ P n b [] i tt))
 
-  pub split-sound : (n : ℕ) (k : List ℕ) (m : Map) → All P (nodes-below κ n m) → All P (upward (layers-of (split-path κ n k m)))
-  split-sound zero k m h = tt
-  split-sound (suc n) k m h =
+  pub fork-sound : (n : ℕ) (k : List ℕ) (m : Map) → All P (nodes-below κ n m) → All P (upward (layers-of (forked-path κ n k m)))
+  fork-sound zero k m h = tt
+  fork-sound (suc n) k m h =
       let i = place k (row κ n m) in
       let a = gap-at i (cut κ n m) in
       let b = gap-at (suc i) (cut κ n m) in
@@ -82,9 +96,9 @@ module _ (κ : Kind) (P : Placed → Type 0) where
       let f = nodes-below κ n in
       let gaps = inner κ P n m h in
       let node = own κ P n m [] h tt in
-      split-path-cases κ n k m (λ (p : Split-path). All P (upward (layers-of p)))
-      (over n (one (row κ n m)) (map both (sides κ n a b)) (sides-layers κ n a b) (sides-sound n a b (gap-nodes P f i (cut κ n m) gaps) (gap-nodes P f (suc i) (cut κ n m) gaps)) node)
-      (over n (one (row κ n m)) (layers-of (split-path κ n k g)) (split-layers κ n k g) (split-sound n k g (gap-of-all n k m gaps)) node)
+      forked-path-cases κ n k m (λ (p : Forked-path). All P (upward (layers-of p)))
+      (over n (single (row κ n m)) (map both (sides κ n a b)) (sides-layers κ n a b) (sides-sound n a b (gap-nodes P f i (cut κ n m) gaps) (gap-nodes P f (suc i) (cut κ n m) gaps)) node)
+      (over n (single (row κ n m)) (layers-of (forked-path κ n k g)) (fork-layers κ n k g) (fork-sound n k g (gap-of-all n k m gaps)) node)
 
   -- the nodes that a split makes, with those that were there
   pub split-complete : (n : ℕ) (a b : Map) → Under κ n a → Under κ n b → All P (upward (map both (sides κ n a b))) → All P (nodes-below κ n (a ++ b)) → All P (nodes-below κ n a) × All P (nodes-below κ n b)
@@ -102,14 +116,14 @@ module _ (κ : Kind) (P : Placed → Type 0) where
 
   -- those that a join makes
   pub join-complete : (n : ℕ) (k : List ℕ) (a b : Map) → Around k a b → Under κ n a → Under κ n b
-      → All P (upward (map one (path κ n k (a ++ b)))) → All P (nodes-below κ n a) → All P (nodes-below κ n b) → All P (nodes-below κ n (a ++ b))
+      → All P (upward (map single (path κ n k (a ++ b)))) → All P (nodes-below κ n a) → All P (nodes-below κ n b) → All P (nodes-below κ n (a ++ b))
   join-complete zero k a b s u v new olda oldb = tt
   join-complete (suc n) k a b s u v new olda oldb =
       let c = left-gap κ n a in
       let d = right-gap κ n b in
       let f = nodes-below κ n in
-      let parts = under n (one (row κ n (a ++ b))) (map one (path κ n k (gap-of κ n k (a ++ b)))) (path-layers κ n k (gap-of κ n k (a ++ b))) new in
-      let path-new = subst (λ g. All P (upward (map one (path κ n k g)))) (gap-absent κ n k a b s) (parts .0) in
+      let parts = under n (single (row κ n (a ++ b))) (map single (path κ n k (gap-of κ n k (a ++ b)))) (path-layers κ n k (gap-of κ n k (a ++ b))) new in
+      let path-new = subst (λ g. All P (upward (map single (path κ n k g)))) (gap-absent κ n k a b s) (parts .0) in
       let gaps-a = inner κ P n a olda in
       let gaps-b = inner κ P n b oldb in
       let rest = join-complete n k c d (around-gaps κ n k a b s) (last-under κ n a u) (first-under κ n b v) path-new (last-nodes P f (cut κ n a) gaps-a) (first-nodes P f (cut κ n b) gaps-b) in
@@ -118,18 +132,18 @@ module _ (κ : Kind) (P : Placed → Type 0) where
 
   -- those that a delete makes
   pub delete-complete : (n : ℕ) (k : List ℕ) (a : Map) (x : Item) (b : Map) → Around k a b → Under κ n a → Under κ n b
-      → All P (upward (map one (path κ n k (a ++ b)))) → All P (nodes-below κ n (a ++ (x ∷ b))) → All P (nodes-below κ n (a ++ b))
+      → All P (upward (map single (path κ n k (a ++ b)))) → All P (nodes-below κ n (a ++ (x ∷ b))) → All P (nodes-below κ n (a ++ b))
   delete-complete zero k a x b s u v new old = tt
   delete-complete (suc n) k a x b s u v new old =
       let c = left-gap κ n a in
       let d = right-gap κ n b in
-      let parts = under n (one (row κ n (a ++ b))) (map one (path κ n k (gap-of κ n k (a ++ b)))) (path-layers κ n k (gap-of κ n k (a ++ b))) new in
-      let path-new = subst (λ g. All P (upward (map one (path κ n k g)))) (gap-absent κ n k a b s) (parts .0) in
+      let parts = under n (single (row κ n (a ++ b))) (map single (path κ n k (gap-of κ n k (a ++ b)))) (path-layers κ n k (gap-of κ n k (a ++ b))) new in
+      let path-new = subst (λ g. All P (upward (map single (path κ n k g)))) (gap-absent κ n k a b s) (parts .0) in
       made κ P n (a ++ b) [] (under-append κ (suc n) a b u v) (parts .1)
       (subst (λ r. All P (over-gaps (nodes-below κ n) r)) (sym (cut-append (at κ n) a b))
       (go (around-gaps κ n k a b s) path-new (delete-complete n k c x d (around-gaps κ n k a b s) (last-under κ n a u) (first-under κ n b v) path-new) (at κ n x) refl))
     where
-      go : Around k (left-gap κ n a) (right-gap κ n b) → All P (upward (map one (path κ n k (left-gap κ n a ++ right-gap κ n b))))
+      go : Around k (left-gap κ n a) (right-gap κ n b) → All P (upward (map single (path κ n k (left-gap κ n a ++ right-gap κ n b))))
           → (All P (nodes-below κ n (left-gap κ n a ++ (x ∷ right-gap κ n b))) → All P (nodes-below κ n (left-gap κ n a ++ right-gap κ n b)))
           → (t : Bool) → at κ n x ≡ t → All P (over-gaps (nodes-below κ n) (meet (cut κ n a) (left-gap κ n a ++ right-gap κ n b) (cut κ n b)))
       go gaps path-new rest true t =
@@ -145,22 +159,22 @@ module _ (κ : Kind) (P : Placed → Type 0) where
 
   -- those that an insert of a new key makes
   pub insert-complete : (n : ℕ) (a : Map) (x : Item) (b : Map) → Around (x .key) a b → Under κ n a → Under κ n b → layer κ (x .key) < n
-      → All P (upward (layers-of (split-path κ n (x .key) (a ++ (x ∷ b))))) → All P (nodes-below κ n (a ++ b)) → All P (nodes-below κ n (a ++ (x ∷ b)))
+      → All P (upward (layers-of (forked-path κ n (x .key) (a ++ (x ∷ b))))) → All P (nodes-below κ n (a ++ b)) → All P (nodes-below κ n (a ++ (x ∷ b)))
   insert-complete zero a x b s u v h new old = absurd (omega arith)
   insert-complete (suc n) a x b s u v h new old =
       go (subst (λ r. All P (over-gaps (nodes-below κ n) r)) (cut-append (at κ n) a b) (inner κ P n (a ++ b) old))
       (insert-complete n (left-gap κ n a) x (right-gap κ n b) (around-gaps κ n (x .key) a b s) (last-under κ n a u) (first-under κ n b v)) (at κ n x) refl
     where
       go : All P (over-gaps (nodes-below κ n) (meet (cut κ n a) (left-gap κ n a ++ right-gap κ n b) (cut κ n b)))
-          → (layer κ (x .key) < n → All P (upward (layers-of (split-path κ n (x .key) (left-gap κ n a ++ (x ∷ right-gap κ n b)))))
+          → (layer κ (x .key) < n → All P (upward (layers-of (forked-path κ n (x .key) (left-gap κ n a ++ (x ∷ right-gap κ n b)))))
           → All P (nodes-below κ n (left-gap κ n a ++ right-gap κ n b)) → All P (nodes-below κ n (left-gap κ n a ++ (x ∷ right-gap κ n b))))
           → (t : Bool) → at κ n x ≡ t → All P (nodes-below κ (suc n) (a ++ (x ∷ b)))
       go gaps rest true t =
           let c = left-gap κ n a in
           let d = right-gap κ n b in
           let f = nodes-below κ n in
-          let new′ = subst (λ (p : Split-path). All P (upward (layers-of p))) (split-path-at κ n (x .key) a b s x refl t) new in
-          let parts = under n (one (row κ n (a ++ (x ∷ b)))) (map both (sides κ n c d)) (sides-layers κ n c d) new′ in
+          let new′ = subst (λ (p : Forked-path). All P (upward (layers-of p))) (forked-path-at κ n (x .key) a b s x refl t) new in
+          let parts = under n (single (row κ n (a ++ (x ∷ b)))) (map both (sides κ n c d)) (sides-layers κ n c d) new′ in
           let halves = split-complete n c d (last-under κ n a u) (first-under κ n b v) (parts .0) (meet-gap P f (cut κ n a) (c ++ d) (cut κ n b) gaps) in
           made κ P n (a ++ (x ∷ b)) [] (under-append κ (suc n) a (x ∷ b) u (h, v)) (parts .1)
           (subst (λ r. All P (over-gaps f r)) (sym (cut-at (at κ n) a x b t))
@@ -170,22 +184,22 @@ module _ (κ : Kind) (P : Placed → Type 0) where
           let d = right-gap κ n b in
           let f = nodes-below κ n in
           let m = c ++ (x ∷ d) in
-          let new′ = subst (λ (p : Split-path). All P (upward (layers-of p))) (split-path-past κ n (x .key) a b s x t) new in
-          let parts = under n (one (row κ n (a ++ (x ∷ b)))) (layers-of (split-path κ n (x .key) m)) (split-layers κ n (x .key) m) new′ in
+          let new′ = subst (λ (p : Forked-path). All P (upward (layers-of p))) (forked-path-past κ n (x .key) a b s x t) new in
+          let parts = under n (single (row κ n (a ++ (x ∷ b)))) (layers-of (forked-path κ n (x .key) m)) (fork-layers κ n (x .key) m) new′ in
           let joint = rest (at-below (layer κ (x .key)) n t h) (parts .0) (meet-gap P f (cut κ n a) (c ++ d) (cut κ n b) gaps) in
           made κ P n (a ++ (x ∷ b)) [] (under-append κ (suc n) a (x ∷ b) u (h, v)) (parts .1)
           (subst (λ r. All P (over-gaps f r)) (sym (cut-past (at κ n) a x b t)) (meet-again P f (cut κ n a) (c ++ d) m (cut κ n b) gaps joint))
 
 -- a key that was there with another record: what an insert makes of its path
-abbrev pub known : Kind → ℕ → Map → Item → Map → Split-path
-known κ n a x b = record { upper = split-path κ n (x .key) (a ++ (x ∷ b)) .upper; lower = sides κ (layer κ (x .key)) [] [] }
+abbrev pub known : Kind → ℕ → Map → Item → Map → Forked-path
+known κ n a x b = record { upper = forked-path κ n (x .key) (a ++ (x ∷ b)) .upper; lower = sides κ (layer κ (x .key)) [] [] }
 
 module _ (κ : Kind) (n : ℕ) (a : Map) (x : Item) (b : Map) (s : Around (x .key) a b) where
-  known-at : at κ n x ≡ true → layers-of (known κ (suc n) a x b) ≡ one (row κ n (a ++ (x ∷ b))) ∷ map both (sides κ n [] [])
-  known-at t = rw (split-path-at κ n (x .key) a b s x refl t, eqb-true (layer κ (x .key)) n t)
+  known-at : at κ n x ≡ true → layers-of (known κ (suc n) a x b) ≡ single (row κ n (a ++ (x ∷ b))) ∷ map both (sides κ n [] [])
+  known-at t = rw (forked-path-at κ n (x .key) a b s x refl t, eqb-true (layer κ (x .key)) n t)
 
-  known-past : at κ n x ≡ false → layers-of (known κ (suc n) a x b) ≡ one (row κ n (a ++ (x ∷ b))) ∷ layers-of (known κ n (left-gap κ n a) x (right-gap κ n b))
-  known-past t = rw (split-path-past κ n (x .key) a b s x t)
+  known-past : at κ n x ≡ false → layers-of (known κ (suc n) a x b) ≡ single (row κ n (a ++ (x ∷ b))) ∷ layers-of (known κ n (left-gap κ n a) x (right-gap κ n b))
+  known-past t = rw (forked-path-past κ n (x .key) a b s x t)
 
 pub known-layers : (κ : Kind) (n : ℕ) (a : Map) (x : Item) (b : Map) → Around (x .key) a b → layer κ (x .key) < n → length (layers-of (known κ n a x b)) ≡ n
 known-layers κ zero a x b s h = absurd (omega arith)
@@ -206,7 +220,7 @@ module _ (κ : Kind) (P : Placed → Type 0) where
           → (t : Bool) → at κ n x ≡ t → All P (upward (layers-of (known κ (suc n) a x b)))
       go rest true t =
           subst (λ layers. All P (upward layers)) (sym (known-at κ n a x b s t))
-          (over κ P n (one (row κ n (a ++ (x ∷ b)))) (map both (sides κ n [] [])) (sides-layers κ n [] []) (sides-sound κ P n [] [] (none κ P n) (none κ P n)) (own κ P n (a ++ (x ∷ b)) [] new tt))
+          (over κ P n (single (row κ n (a ++ (x ∷ b)))) (map both (sides κ n [] [])) (sides-layers κ n [] []) (sides-sound κ P n [] [] (none κ P n) (none κ P n)) (own κ P n (a ++ (x ∷ b)) [] new tt))
       go rest false t =
           let c = left-gap κ n a in
           let d = right-gap κ n b in
@@ -214,7 +228,7 @@ module _ (κ : Kind) (P : Placed → Type 0) where
           let l = at-below (layer κ (x .key)) n t h in
           let gaps = subst (λ r. All P (over-gaps f r)) (cut-past (at κ n) a x b t) (inner κ P n (a ++ (x ∷ b)) new) in
           subst (λ layers. All P (upward layers)) (sym (known-past κ n a x b s t))
-          (over κ P n (one (row κ n (a ++ (x ∷ b)))) (layers-of (known κ n c x d)) (known-layers κ n c x d (around-gaps κ n (x .key) a b s) l)
+          (over κ P n (single (row κ n (a ++ (x ∷ b)))) (layers-of (known κ n c x d)) (known-layers κ n c x d (around-gaps κ n (x .key) a b s) l)
           (rest l (meet-gap P f (cut κ n a) (c ++ (x ∷ d)) (cut κ n b) gaps)) (own κ P n (a ++ (x ∷ b)) [] new tt))
 
   pub known-complete : (n : ℕ) (a : Map) (x y : Item) (b : Map) → y .key ≡ x .key → Around (x .key) a b → Under κ n a → Under κ n b → layer κ (x .key) < n
@@ -232,7 +246,7 @@ module _ (κ : Kind) (P : Placed → Type 0) where
       go rest true t =
           let f = nodes-below κ n in
           let new′ = subst (λ layers. All P (upward layers)) (known-at κ n a x b s t) new in
-          let parts = under κ P n (one (row κ n (a ++ (x ∷ b)))) (map both (sides κ n [] [])) (sides-layers κ n [] []) new′ in
+          let parts = under κ P n (single (row κ n (a ++ (x ∷ b)))) (map both (sides κ n [] [])) (sides-layers κ n [] []) new′ in
           let gaps = graft-parts P f (cut κ n a) y (cut κ n b) (subst (λ r. All P (over-gaps f r)) (cut-at (at κ n) a y b (same-layer ∙ t)) (inner κ P n (a ++ (y ∷ b)) old)) in
           made κ P n (a ++ (x ∷ b)) [] (under-append κ (suc n) a (x ∷ b) u (h, v)) (parts .1)
           (subst (λ r. All P (over-gaps f r)) (sym (cut-at (at κ n) a x b t)) (graft-from P f (cut κ n a) x (cut κ n b) (gaps .0) (gaps .1)))
@@ -242,7 +256,7 @@ module _ (κ : Kind) (P : Placed → Type 0) where
           let f = nodes-below κ n in
           let l = at-below (layer κ (x .key)) n t h in
           let new′ = subst (λ layers. All P (upward layers)) (known-past κ n a x b s t) new in
-          let parts = under κ P n (one (row κ n (a ++ (x ∷ b)))) (layers-of (known κ n c x d)) (known-layers κ n c x d (around-gaps κ n (x .key) a b s) l) new′ in
+          let parts = under κ P n (single (row κ n (a ++ (x ∷ b)))) (layers-of (known κ n c x d)) (known-layers κ n c x d (around-gaps κ n (x .key) a b s) l) new′ in
           let gaps = subst (λ r. All P (over-gaps f r)) (cut-past (at κ n) a y b (same-layer ∙ t)) (inner κ P n (a ++ (y ∷ b)) old) in
           let joint = rest l (parts .0) (meet-gap P f (cut κ n a) (c ++ (y ∷ d)) (cut κ n b) gaps) in
           made κ P n (a ++ (x ∷ b)) [] (under-append κ (suc n) a (x ∷ b) u (h, v)) (parts .1)

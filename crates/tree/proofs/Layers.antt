@@ -1,17 +1,16 @@
 -- Maps whose keys are all below a layer, and the highest layer of a map. Assumes nothing.
-use mathlib.Core.Path.{_≡_, refl, ap, sym, subst}
+use mathlib.Core.Path.{_≡_, refl, subst}
 use mathlib.Core.Bool.{Bool, true, false}
-use mathlib.Core.List.{List, [], _∷_, _++_}
-use mathlib.Core.Logic.{_⊎_, inl, inr, _≢_}
+use mathlib.Core.List.{[], _∷_, _++_}
 use Prim.Native.Nat.{ℕ, suc, max, _<_, _≤_}
 use native.Mathlib.Omega.{arith}
 use lib.Dec.{eqb}
-use Rattle.std.specs.shelf.Lists.{All, Has}
-use Rattle.std.proofs.shelf.Elements.{all-append, all-weaker, has-append-right, all-has-itself}
-use Rattle.std.proofs.shelf.Tests.{eqb-true, eqb-false}
+use Rattle.std.specs.shelf.Lists.{All}
+use Rattle.std.proofs.shelf.Elements.{all-append, all-weaker}
+use Rattle.std.proofs.shelf.Tests.{eqb-true}
 use Rattle.digest.specs.Kind.{Kind}
 use Rattle.digest.specs.Layer.{layer}
-use Rattle.tree.specs.Laws.{Parted, Node-law}
+use Rattle.tree.specs.Laws.{Parted}
 use Rattle.tree.specs.Map.{Item, Map}
 use Rattle.tree.specs.Row.{Row, end, more, prepend, count, first-gap, last-gap}
 use Rattle.tree.specs.Tree.{at, cut, below, row, top}
@@ -98,35 +97,3 @@ keyed-top κ n (x ∷ m) u h = go (at κ n x) refl h (keyed-top κ n m (u .1))
     go : (t : Bool) → at κ n x ≡ t → 0 < count (prepend t x (cut κ n m)) → (0 < count (cut κ n m) → top κ m ≡ n) → top κ (x ∷ m) ≡ n
     go true t h rest = omega (arith, eqb-true (layer κ (x .key)) n t, top-under κ n m (u .1))
     go false t h rest = omega (arith, at-below (layer κ (x .key)) n t (u .0), rest (omega (arith, count-prepend x (cut κ n m))))
-
--- what a node holds
-
-on-top : (κ : Kind) (m : Map) → (m ≡ []) ⊎ ((x : Item) × Has m x × (layer κ (x .key) ≡ top κ m))
-on-top κ [] = inl refl
-on-top κ (x ∷ m) = inr (go (on-top κ m))
-  where
-    here : top κ (x ∷ m) ≡ layer κ (x .key) → (y : Item) × Has (x ∷ m) y × (layer κ (y .key) ≡ top κ (x ∷ m))
-    here e = (x, all-has-itself (x ∷ m) .0, sym e)
-
-    deeper : (y : Item) → Has m y → layer κ (y .key) ≡ top κ m → (t : Bool) → eqb (max (layer κ (x .key)) (top κ m)) (layer κ (x .key)) ≡ t
-        → (z : Item) × Has (x ∷ m) z × (layer κ (z .key) ≡ top κ (x ∷ m))
-    deeper y h e true t = here (eqb-true _ _ t)
-    deeper y h e false t = (y, has-append-right (x ∷ []) m y h, omega (arith, eqb-false _ _ t))
-
-    go : (m ≡ []) ⊎ ((y : Item) × Has m y × (layer κ (y .key) ≡ top κ m)) → (y : Item) × Has (x ∷ m) y × (layer κ (y .key) ≡ top κ (x ∷ m))
-    go (inl e) = here (omega (arith, ap (top κ) e))
-    go (inr (y, h, e)) = deeper y h e (eqb (max (layer κ (x .key)) (top κ m)) (layer κ (x .key))) refl
-
-all-trivial : {X : Type 0} (xs : List X) → All (λ _. Unit {0}) xs
-all-trivial [] = tt
-all-trivial (x ∷ xs) = (tt, all-trivial xs)
-
-pub node-law : (κ : Kind) → Node-law κ
-node-law κ = record {
-  whole = λ n m. flat-cut (at κ n) m;
-  layers = λ n m.
-      cut-parted (at κ n) (λ x. layer κ (x .key) ≢ n) (λ x. layer κ (x .key) ≡ n) (λ _. Unit {0})
-      (λ x t _. eqb-true (layer κ (x .key)) n t) (λ x t _. eqb-false (layer κ (x .key)) n t) m (all-trivial m);
-  under-top = λ m. all-weaker (λ x. layer κ (x .key) < suc (top κ m)) (λ x. layer κ (x .key) ≤ top κ m) (λ x l. omega arith) m (under-top κ m);
-  on-top = on-top κ;
-}

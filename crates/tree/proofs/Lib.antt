@@ -1,11 +1,14 @@
 pub mod Rows
 pub mod Maps
 pub mod Layers
+pub mod Leaves
 pub mod Splits
 pub mod Places
 pub mod Paths
+pub mod Lookups
 pub mod Nodes
 pub mod Changes
+pub mod Orders
 pub mod Tops
 pub mod Widths
 pub mod Rebuilds

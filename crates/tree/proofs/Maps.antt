@@ -6,14 +6,15 @@ use mathlib.Core.Logic.{_≢_, ⊎-elim}
 use Prim.Native.Nat.{ℕ}
 use native.Mathlib.Omega.{arith}
 use Rattle.std.specs.declared.option.Option.the-variants.{Some, None}
-use Rattle.std.specs.shelf.Lists.{All}
-use Rattle.std.proofs.shelf.Elements.{all-weaker}
+use Rattle.std.specs.shelf.Lists.{All, Has}
+use Rattle.std.proofs.shelf.Elements.{all-has, all-has-itself, all-weaker, has-append-right}
 use Rattle.std.proofs.shelf.Tests.{cases-bool, cond-both}
 use Rattle.std.proofs.shelf.Ways.{tells}
 use Rattle.bytes.specs.Order.{before}
 use Rattle.bytes.proofs.Orders.{before-self, before-trans, before-neither, before-one-way}
 use Rattle.tree.specs.Map.{Is-key, Is-record, Item, Map, Before-all, Rising, insert, delete, lookup}
 use Rattle.tree.specs.MapLaws.{Map-laws}
+use Rattle.tree.proofs.Rows.{both-all}
 
 -- what is known of a new item and of every old one
 
@@ -153,6 +154,32 @@ equal-lookups (x ∷ m) (y ∷ n) r s same =
     let rest : m ≡ n = equal-lookups m n (r .1) (s .1) (λ k. rest-same x m n (r .0) after k (lookups k)) in
     cc
 
+-- what is found is in the list, and what is in the list is found
+
+found : (k v : List ℕ) (m : Map) → lookup k m ≡ Some v → Has m (record { key = k; value = v })
+found k v [] h = absurd (grind arith)
+found k v (x ∷ m) h = go (before (x .key) k) refl (before k (x .key)) refl h (found k v m)
+  where
+    go : (s : Bool) → before (x .key) k ≡ s → (t : Bool) → before k (x .key) ≡ t → cond s (lookup k m) (cond t None (Some (x .value))) ≡ Some v
+        → (lookup k m ≡ Some v → Has m (record { key = k; value = v })) → Has (x ∷ m) (record { key = k; value = v })
+    go true p t q h rest = has-append-right (x ∷ []) m (record { key = k; value = v }) (rest h)
+    go false p true q h rest = absurd (grind arith)
+    go false p false q h rest =
+        let key = before-neither (x .key) k p q in
+        let value : x .value ≡ v = cc in
+        let same : x ≡ record { key = k; value = v } = λ i. record { key = key i; value = value i } in
+        subst (λ (y : Item). Has (x ∷ m) y) same (all-has-itself (x ∷ m) .0)
+
+listed-all : (m : Map) → Rising m → All (λ x. lookup (x .key) m ≡ Some (x .value)) m
+listed-all [] r = tt
+listed-all (y ∷ m) r = (
+  rw (before-self (y .key)),
+  both-all (λ x. before (y .key) (x .key) ≡ true) (λ x. lookup (x .key) m ≡ Some (x .value)) (λ x. lookup (x .key) (y ∷ m) ≡ Some (x .value)) (λ x p h. rw (p, h)) m (r .0) (listed-all m (r .1)),
+)
+
+listed : (x : Item) (m : Map) → Rising m → Has m x → lookup (x .key) m ≡ Some (x .value)
+listed x m r h = all-has (λ (x : Item). lookup (x .key) m ≡ Some (x .value)) m x (listed-all m r) h
+
 pub map-laws : Map-laws
 map-laws = record {
   insert-keeps = λ k v m key value is. record {
@@ -171,5 +198,7 @@ map-laws = record {
   delete-other = delete-other;
   insert-same = insert-same;
   delete-absent = λ k m r. delete-absent k m;
+  found = found;
+  listed = listed;
   equal-lookups = equal-lookups;
 }

@@ -8,13 +8,13 @@ use Rattle.std.specs.declared.option.Option.the-variants.{Some, None}
 use Rattle.std.specs.shelf.Lists.{All}
 use Rattle.std.proofs.shelf.Elements.{all-append}
 use Rattle.digest.specs.Kind.{Kind}
-use Rattle.tree.specs.Change.{seal, placed, one}
+use Rattle.tree.specs.Change.{link-to, placed}
 use Rattle.tree.specs.Map.{Item, Map}
 use Rattle.tree.specs.Path.{has, path}
 use Rattle.tree.specs.Row.{Row, end, more, first-gap, last-gap, gap-at, set-first, meet, graft}
 use Rattle.tree.specs.Tree.{cut, Links, digest, row, Placed, placed-at, over-gaps, nodes-below}
 use Rattle.tree.proofs.Layers.{Under}
-use Rattle.tree.proofs.Paths.{below-none, seal-row}
+use Rattle.tree.proofs.Paths.{below-none, row-link}
 
 pub all-parts : {X : Type 0} (P : X → Type 0) (xs ys : List X) → All P (xs ++ ys) → All P xs × All P ys
 all-parts P [] ys h = (tt, h)
@@ -102,7 +102,7 @@ placed-one P n (more l s r) rs p h = (p, h)
 pub placed-null : (P : Placed → Type 0) (n : ℕ) (r : Links) (rs : List Links) → r ≡ end None → All P (placed n rs) → All P (placed n (r ∷ rs))
 placed-null P n r rs e h = subst (λ (r : Links). All P (placed n (r ∷ rs))) (sym e) h
 
-pub placed-real : (P : Placed → Type 0) (κ : Kind) (d : List ℕ) (n : ℕ) (r : Links) (rs : List Links) → seal κ r ≡ Some d → All P (placed n (r ∷ rs)) → P (placed-at n r) × All P (placed n rs)
+pub placed-real : (P : Placed → Type 0) (κ : Kind) (d : List ℕ) (n : ℕ) (r : Links) (rs : List Links) → link-to κ r ≡ Some d → All P (placed n (r ∷ rs)) → P (placed-at n r) × All P (placed n rs)
 placed-real P κ d n (end None) rs e h = absurd (grind arith)
 placed-real P κ d n (end (Some c)) rs e h = h
 placed-real P κ d n (more l s r) rs e h = h
@@ -130,4 +130,4 @@ module _ (κ : Kind) (P : Placed → Type 0) where
   -- a node of a map that has a key is one, and is needed
   pub made : (n : ℕ) (m : Map) (rs : List Links) → Under κ (suc n) m → All P (placed n (row κ n m ∷ rs)) → All P (over-gaps (nodes-below κ n) (cut κ n m)) → All P (nodes-below κ (suc n) m)
   made n [] rs u p i = tt
-  made n (x ∷ m) rs u p i = (placed-real P κ (digest κ (row κ n (x ∷ m))) n (row κ n (x ∷ m)) rs (seal-row κ n (x ∷ m) u) p .0, i)
+  made n (x ∷ m) rs u p i = (placed-real P κ (digest κ (row κ n (x ∷ m))) n (row κ n (x ∷ m)) rs (row-link κ n (x ∷ m) u) p .0, i)

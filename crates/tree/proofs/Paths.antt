@@ -11,9 +11,9 @@ use Rattle.std.specs.declared.option.Option.the-variants.{Some, None}
 use Rattle.std.proofs.shelf.Tests.{cond-both, eqb-true}
 use Rattle.digest.specs.Kind.{Kind}
 use Rattle.digest.specs.Layer.{layer}
-use Rattle.tree.specs.Change.{seal, link-up, left-up, right-up, split, join, insert-up, delete-up}
+use Rattle.tree.specs.Change.{link-to, link-up, left-up, right-up, split, join, insert-up, delete-up}
 use Rattle.tree.specs.Map.{Item, Map}
-use Rattle.tree.specs.Path.{place, has, gap-of, path, sides, Split-path, split-path}
+use Rattle.tree.specs.Path.{place, has, gap-of, path, sides, Forked-path, forked-path}
 use Rattle.tree.specs.Row.{Row, end, more, prepend, map-row, gap-at}
 use Rattle.tree.specs.Tree.{at, cut, Links, leaf, digest, below, row}
 use Rattle.tree.proofs.Layers.{Under, at-below, first-under, last-under, under-append}
@@ -27,31 +27,31 @@ pub below-none : (κ : Kind) (n : ℕ) → below κ n [] ≡ None
 below-none κ zero = refl
 below-none κ (suc n) = refl
 
-seal-end : (κ : Kind) (n : ℕ) (x : Item) (m : Map) → layer κ (x .key) < n → seal κ (end (below κ n (x ∷ m))) ≡ Some (digest κ (end (below κ n (x ∷ m))))
-seal-end κ zero x m h = absurd (omega arith)
-seal-end κ (suc n) x m h = refl
+end-link : (κ : Kind) (n : ℕ) (x : Item) (m : Map) → layer κ (x .key) < n → link-to κ (end (below κ n (x ∷ m))) ≡ Some (digest κ (end (below κ n (x ∷ m))))
+end-link κ zero x m h = absurd (omega arith)
+end-link κ (suc n) x m h = refl
 
-seal-prepend : (κ : Kind) (n : ℕ) (t : Bool) (x : Item) (r : Row Map Item) → at κ n x ≡ t → layer κ (x .key) < suc n
-    → seal κ (map-row (below κ n) (leaf κ) (prepend t x r)) ≡ Some (digest κ (map-row (below κ n) (leaf κ) (prepend t x r)))
-seal-prepend κ n true x r t h = refl
-seal-prepend κ n false x (end g) t h = seal-end κ n x g (at-below (layer κ (x .key)) n t h)
-seal-prepend κ n false x (more g y r) t h = refl
+prepend-link : (κ : Kind) (n : ℕ) (t : Bool) (x : Item) (r : Row Map Item) → at κ n x ≡ t → layer κ (x .key) < suc n
+    → link-to κ (map-row (below κ n) (leaf κ) (prepend t x r)) ≡ Some (digest κ (map-row (below κ n) (leaf κ) (prepend t x r)))
+prepend-link κ n true x r t h = refl
+prepend-link κ n false x (end g) t h = end-link κ n x g (at-below (layer κ (x .key)) n t h)
+prepend-link κ n false x (more g y r) t h = refl
 
-pub seal-row : (κ : Kind) (n : ℕ) (m : Map) → Under κ (suc n) m → seal κ (row κ n m) ≡ below κ (suc n) m
-seal-row κ n [] u = rw (below-none κ n)
-seal-row κ n (x ∷ m) u = seal-prepend κ n (at κ n x) x (cut κ n m) refl (u .0)
+pub row-link : (κ : Kind) (n : ℕ) (m : Map) → Under κ (suc n) m → link-to κ (row κ n m) ≡ below κ (suc n) m
+row-link κ n [] u = rw (below-none κ n)
+row-link κ n (x ∷ m) u = prepend-link κ n (at κ n x) x (cut κ n m) refl (u .0)
 
 pub path-link : (κ : Kind) (n : ℕ) (k : List ℕ) (m : Map) → Under κ n m → link-up κ (path κ n k m) ≡ below κ n m
 path-link κ zero k m u = refl
-path-link κ (suc n) k m u = seal-row κ n m u
+path-link κ (suc n) k m u = row-link κ n m u
 
 left-link : (κ : Kind) (n : ℕ) (a b : Map) → Under κ n a → left-up κ (sides κ n a b) ≡ below κ n a
 left-link κ zero a b u = refl
-left-link κ (suc n) a b u = seal-row κ n a u
+left-link κ (suc n) a b u = row-link κ n a u
 
 right-link : (κ : Kind) (n : ℕ) (a b : Map) → Under κ n b → right-up κ (sides κ n a b) ≡ below κ n b
 right-link κ zero a b u = refl
-right-link κ (suc n) a b u = seal-row κ n b u
+right-link κ (suc n) a b u = row-link κ n b u
 
 pub path-length : (κ : Kind) (n : ℕ) (k : List ℕ) (m : Map) → length (path κ n k m) ≡ n
 path-length κ zero k m = refl
@@ -73,32 +73,32 @@ module _ (κ : Kind) (k : List ℕ) where
       let link = path-link κ n k (left-gap κ n a ++ right-gap κ n b) (under-append κ n (left-gap κ n a) (right-gap κ n b) (last-under κ n a u) (first-under κ n b v)) in
       rw (rest, link, ← (row-append κ n a b), gap-absent κ n k a b s)
 
--- a node above the split path of a gap
-abbrev pub step : Kind → ℕ → List ℕ → Links → Map → Split-path
-step κ n k r m = record { upper = r ∷ split-path κ n k m .upper; lower = split-path κ n k m .lower }
+-- a node above the forked path of a gap
+abbrev pub step : Kind → ℕ → List ℕ → Links → Map → Forked-path
+step κ n k r m = record { upper = r ∷ forked-path κ n k m .upper; lower = forked-path κ n k m .lower }
 
--- one step of a split path: at the key's layer, above it, and where the key is not there
+-- one step of a forked path: at the key's layer, above it, and where the key is not there
 module _ (κ : Kind) (n : ℕ) (k : List ℕ) (a b : Map) (s : Around k a b) where
-  pub split-path-at : (x : Item) → x .key ≡ k → at κ n x ≡ true
-      → split-path κ (suc n) k (a ++ (x ∷ b)) ≡ record { upper = row κ n (a ++ (x ∷ b)) ∷ []; lower = sides κ n (left-gap κ n a) (right-gap κ n b) }
-  split-path-at x e t = rw (has-at κ n k a b s x e t, place-at κ n k a b s x e t, cut-at (at κ n) a x b t, gap-before, gap-after)
+  pub forked-path-at : (x : Item) → x .key ≡ k → at κ n x ≡ true
+      → forked-path κ (suc n) k (a ++ (x ∷ b)) ≡ record { upper = row κ n (a ++ (x ∷ b)) ∷ []; lower = sides κ n (left-gap κ n a) (right-gap κ n b) }
+  forked-path-at x e t = rw (has-at κ n k a b s x e t, place-at κ n k a b s x e t, cut-at (at κ n) a x b t, gap-before, gap-after)
 
-  pub split-path-past : (x : Item) → at κ n x ≡ false → split-path κ (suc n) k (a ++ (x ∷ b)) ≡ step κ n k (row κ n (a ++ (x ∷ b))) (left-gap κ n a ++ (x ∷ right-gap κ n b))
-  split-path-past x t = rw (gap-of-past κ n k a b s x t, has-past κ n k a b s x t)
+  pub forked-path-past : (x : Item) → at κ n x ≡ false → forked-path κ (suc n) k (a ++ (x ∷ b)) ≡ step κ n k (row κ n (a ++ (x ∷ b))) (left-gap κ n a ++ (x ∷ right-gap κ n b))
+  forked-path-past x t = rw (gap-of-past κ n k a b s x t, has-past κ n k a b s x t)
 
-  pub split-path-absent : split-path κ (suc n) k (a ++ b) ≡ step κ n k (row κ n (a ++ b)) (left-gap κ n a ++ right-gap κ n b)
-  split-path-absent = rw (gap-absent κ n k a b s, has-absent κ n k a b s)
+  pub forked-path-absent : forked-path κ (suc n) k (a ++ b) ≡ step κ n k (row κ n (a ++ b)) (left-gap κ n a ++ right-gap κ n b)
+  forked-path-absent = rw (gap-absent κ n k a b s, has-absent κ n k a b s)
 
--- what holds of both forms of a split path holds of it
-pub split-path-cases : (κ : Kind) (n : ℕ) (k : List ℕ) (m : Map) (Q : Split-path → Type 0)
+-- what holds of both forms of a forked path holds of it
+pub forked-path-cases : (κ : Kind) (n : ℕ) (k : List ℕ) (m : Map) (Q : Forked-path → Type 0)
     → Q (record { upper = row κ n m ∷ []; lower = sides κ n (gap-at (place k (row κ n m)) (cut κ n m)) (gap-at (suc (place k (row κ n m))) (cut κ n m)) })
-    → Q (step κ n k (row κ n m) (gap-of κ n k m)) → Q (split-path κ (suc n) k m)
-split-path-cases κ n k m Q at-key above = cond-both (has k (row κ n m)) _ _ Q (λ _. at-key) (λ _. above)
+    → Q (step κ n k (row κ n m) (gap-of κ n k m)) → Q (forked-path κ (suc n) k m)
+forked-path-cases κ n k m Q at-key above = cond-both (has k (row κ n m)) _ _ Q (λ _. at-key) (λ _. above)
 
-pub split-path-link : (κ : Kind) (n : ℕ) (k : List ℕ) (m : Map) → Under κ n m → link-up κ (split-path κ n k m .upper) ≡ below κ n m
-split-path-link κ zero k m u = refl
-split-path-link κ (suc n) k m u =
-    split-path-cases κ n k m (λ (p : Split-path). link-up κ (p .upper) ≡ below κ (suc n) m) (seal-row κ n m u) (seal-row κ n m u)
+pub forked-path-link : (κ : Kind) (n : ℕ) (k : List ℕ) (m : Map) → Under κ n m → link-up κ (forked-path κ n k m .upper) ≡ below κ n m
+forked-path-link κ zero k m u = refl
+forked-path-link κ (suc n) k m u =
+    forked-path-cases κ n k m (λ (p : Forked-path). link-up κ (p .upper) ≡ below κ (suc n) m) (row-link κ n m u) (row-link κ n m u)
 
 -- an insert
 module _ (κ : Kind) (x : Item) where
@@ -107,7 +107,7 @@ module _ (κ : Kind) (x : Item) where
 
   -- of a key that is not there
   pub insert-new : (n : ℕ) (a b : Map) → Around k a b → Under κ n a → Under κ n b → layer κ k < n
-      → insert-up κ x (path κ n k (a ++ b)) ≡ split-path κ n k (a ++ (x ∷ b))
+      → insert-up κ x (path κ n k (a ++ b)) ≡ forked-path κ n k (a ++ (x ∷ b))
   insert-new zero a b s u v h = absurd (omega arith)
   insert-new (suc n) a b s u v h =
       let gaps = around-gaps κ n k a b s in
@@ -117,11 +117,11 @@ module _ (κ : Kind) (x : Item) where
     where
       go : Under κ n (left-gap κ n a) → Under κ n (right-gap κ n b)
           → split κ k (path κ n k (left-gap κ n a ++ right-gap κ n b)) ≡ sides κ n (left-gap κ n a) (right-gap κ n b)
-          → (layer κ k < n → insert-up κ x (path κ n k (left-gap κ n a ++ right-gap κ n b)) ≡ split-path κ n k (left-gap κ n a ++ (x ∷ right-gap κ n b)))
-          → (t : Bool) → at κ n x ≡ t → insert-up κ x (path κ (suc n) k (a ++ b)) ≡ split-path κ (suc n) k (a ++ (x ∷ b))
+          → (layer κ k < n → insert-up κ x (path κ n k (left-gap κ n a ++ right-gap κ n b)) ≡ forked-path κ n k (left-gap κ n a ++ (x ∷ right-gap κ n b)))
+          → (t : Bool) → at κ n x ≡ t → insert-up κ x (path κ (suc n) k (a ++ b)) ≡ forked-path κ (suc n) k (a ++ (x ∷ b))
       go left right halves rest true t =
           rw (
-            split-path-at κ n k a b s x refl t,
+            forked-path-at κ n k a b s x refl t,
             gap-absent κ n k a b s,
             path-length κ n k (left-gap κ n a ++ right-gap κ n b),
             t,
@@ -134,12 +134,12 @@ module _ (κ : Kind) (x : Item) where
           )
       go left right halves rest false t =
           let l : layer κ k < n = at-below (layer κ k) n t h in
-          let link = split-path-link κ n k (left-gap κ n a ++ (x ∷ right-gap κ n b)) (under-append κ n (left-gap κ n a) (x ∷ right-gap κ n b) left (l, right)) in
-          rw (split-path-past κ n k a b s x t, gap-absent κ n k a b s, path-length κ n k (left-gap κ n a ++ right-gap κ n b), t, rest l, link, place-absent κ n k a b s, insert-above κ n a x b t)
+          let link = forked-path-link κ n k (left-gap κ n a ++ (x ∷ right-gap κ n b)) (under-append κ n (left-gap κ n a) (x ∷ right-gap κ n b) left (l, right)) in
+          rw (forked-path-past κ n k a b s x t, gap-absent κ n k a b s, path-length κ n k (left-gap κ n a ++ right-gap κ n b), t, rest l, link, place-absent κ n k a b s, insert-above κ n a x b t)
 
   -- of a key that is there: below its node nothing changes
   pub insert-known : (n : ℕ) (a : Map) (y : Item) (b : Map) → y .key ≡ k → Around k a b → Under κ n a → Under κ n b → layer κ k < n
-      → insert-up κ x (path κ n k (a ++ (y ∷ b))) ≡ record { upper = split-path κ n k (a ++ (x ∷ b)) .upper; lower = sides κ (layer κ k) [] [] }
+      → insert-up κ x (path κ n k (a ++ (y ∷ b))) ≡ record { upper = forked-path κ n k (a ++ (x ∷ b)) .upper; lower = sides κ (layer κ k) [] [] }
   insert-known zero a y b e s u v h = absurd (omega arith)
   insert-known (suc n) a y b e s u v h =
       let gaps = around-gaps κ n k a b s in
@@ -153,13 +153,13 @@ module _ (κ : Kind) (x : Item) where
       go : Under κ n (left-gap κ n a) → Under κ n (right-gap κ n b)
           → split κ k (path κ n k []) ≡ sides κ n [] []
           → (layer κ k < n → insert-up κ x (path κ n k (left-gap κ n a ++ (y ∷ right-gap κ n b)))
-          ≡ record { upper = split-path κ n k (left-gap κ n a ++ (x ∷ right-gap κ n b)) .upper; lower = sides κ (layer κ k) [] [] })
+          ≡ record { upper = forked-path κ n k (left-gap κ n a ++ (x ∷ right-gap κ n b)) .upper; lower = sides κ (layer κ k) [] [] })
           → (t : Bool) → at κ n x ≡ t
-          → insert-up κ x (path κ (suc n) k (a ++ (y ∷ b))) ≡ record { upper = split-path κ (suc n) k (a ++ (x ∷ b)) .upper; lower = sides κ (layer κ k) [] [] }
+          → insert-up κ x (path κ (suc n) k (a ++ (y ∷ b))) ≡ record { upper = forked-path κ (suc n) k (a ++ (x ∷ b)) .upper; lower = sides κ (layer κ k) [] [] }
       go left right halves rest true t =
           let t′ = same-layer ∙ t in
           rw (
-            split-path-at κ n k a b s x refl t,
+            forked-path-at κ n k a b s x refl t,
             gap-of-at κ n k a b s y e t′,
             path-length κ n k [],
             t,
@@ -172,17 +172,17 @@ module _ (κ : Kind) (x : Item) where
       go left right halves rest false t =
           let t′ = same-layer ∙ t in
           let l : layer κ k < n = at-below (layer κ k) n t h in
-          let link = split-path-link κ n k (left-gap κ n a ++ (x ∷ right-gap κ n b)) (under-append κ n (left-gap κ n a) (x ∷ right-gap κ n b) left (l, right)) in
-          rw (split-path-past κ n k a b s x t, gap-of-past κ n k a b s y t′, path-length κ n k (left-gap κ n a ++ (y ∷ right-gap κ n b)), t, rest l, link, place-past κ n k a b s y t′, ← (replace-above κ n a y x b t′ t))
+          let link = forked-path-link κ n k (left-gap κ n a ++ (x ∷ right-gap κ n b)) (under-append κ n (left-gap κ n a) (x ∷ right-gap κ n b) left (l, right)) in
+          rw (forked-path-past κ n k a b s x t, gap-of-past κ n k a b s y t′, path-length κ n k (left-gap κ n a ++ (y ∷ right-gap κ n b)), t, rest l, link, place-past κ n k a b s y t′, ← (replace-above κ n a y x b t′ t))
 
 -- a delete
 module _ (κ : Kind) (k : List ℕ) where
-  abbrev deleted : Split-path → List Links
+  abbrev deleted : Forked-path → List Links
   deleted p = delete-up κ k (p .upper) (join κ (p .lower))
 
   -- of a key that is there
   pub delete-known : (n : ℕ) (a : Map) (x : Item) (b : Map) → x .key ≡ k → Around k a b → Under κ n a → Under κ n b → layer κ k < n
-      → deleted (split-path κ n k (a ++ (x ∷ b))) ≡ path κ n k (a ++ b)
+      → deleted (forked-path κ n k (a ++ (x ∷ b))) ≡ path κ n k (a ++ b)
   delete-known zero a x b e s u v h = absurd (omega arith)
   delete-known (suc n) a x b e s u v h =
       let gaps = around-gaps κ n k a b s in
@@ -193,16 +193,16 @@ module _ (κ : Kind) (k : List ℕ) where
     where
       go : link-up κ (path κ n k (left-gap κ n a ++ right-gap κ n b)) ≡ below κ n (left-gap κ n a ++ right-gap κ n b)
           → join κ (sides κ n (left-gap κ n a) (right-gap κ n b)) ≡ path κ n k (left-gap κ n a ++ right-gap κ n b)
-          → (layer κ k < n → deleted (split-path κ n k (left-gap κ n a ++ (x ∷ right-gap κ n b))) ≡ path κ n k (left-gap κ n a ++ right-gap κ n b))
-          → (t : Bool) → at κ n x ≡ t → deleted (split-path κ (suc n) k (a ++ (x ∷ b))) ≡ path κ (suc n) k (a ++ b)
+          → (layer κ k < n → deleted (forked-path κ n k (left-gap κ n a ++ (x ∷ right-gap κ n b))) ≡ path κ n k (left-gap κ n a ++ right-gap κ n b))
+          → (t : Bool) → at κ n x ≡ t → deleted (forked-path κ (suc n) k (a ++ (x ∷ b))) ≡ path κ (suc n) k (a ++ b)
       go link halves rest true t =
-          rw (split-path-at κ n k a b s x e t, halves, has-at κ n k a b s x e t, place-at κ n k a b s x e t, link, ← (delete-at κ n a x b t), gap-absent κ n k a b s)
+          rw (forked-path-at κ n k a b s x e t, halves, has-at κ n k a b s x e t, place-at κ n k a b s x e t, link, ← (delete-at κ n a x b t), gap-absent κ n k a b s)
       go link halves rest false t =
           let l : layer κ k < n = at-below (layer κ k) n (ap (λ (j : List ℕ). eqb (layer κ j) n) (sym e) ∙ t) h in
-          rw (split-path-past κ n k a b s x t, rest l, has-past κ n k a b s x t, place-past κ n k a b s x t, link, ← (delete-above κ n a x b t), gap-absent κ n k a b s)
+          rw (forked-path-past κ n k a b s x t, rest l, has-past κ n k a b s x t, place-past κ n k a b s x t, link, ← (delete-above κ n a x b t), gap-absent κ n k a b s)
 
   -- of a key that is not: every node is made again as it was
-  pub delete-unknown : (n : ℕ) (a b : Map) → Around k a b → Under κ n a → Under κ n b → deleted (split-path κ n k (a ++ b)) ≡ path κ n k (a ++ b)
+  pub delete-unknown : (n : ℕ) (a b : Map) → Around k a b → Under κ n a → Under κ n b → deleted (forked-path κ n k (a ++ b)) ≡ path κ n k (a ++ b)
   delete-unknown zero a b s u v = refl
   delete-unknown (suc n) a b s u v =
       let gaps = around-gaps κ n k a b s in
@@ -210,4 +210,4 @@ module _ (κ : Kind) (k : List ℕ) where
       let right = first-under κ n b v in
       let rest = delete-unknown n (left-gap κ n a) (right-gap κ n b) gaps left right in
       let link = path-link κ n k (left-gap κ n a ++ right-gap κ n b) (under-append κ n (left-gap κ n a) (right-gap κ n b) left right) in
-      rw (split-path-absent κ n k a b s, gap-absent κ n k a b s, rest, has-absent κ n k a b s, place-absent κ n k a b s, link, ← (row-same κ n a b))
+      rw (forked-path-absent κ n k a b s, gap-absent κ n k a b s, rest, has-absent κ n k a b s, place-absent κ n k a b s, link, ← (row-same κ n a b))

@@ -2,7 +2,7 @@
 use mathlib.Core.Path.{_≡_, refl, ap, sym, _∙_}
 use mathlib.Core.Bool.{Bool, true, false}
 use mathlib.Core.List.{List, [], _∷_, _++_, append-nil}
-use Prim.Native.Nat.{suc}
+use Prim.Native.Nat.{ℕ, zero, suc}
 use Rattle.std.specs.shelf.Lists.{All}
 use Rattle.tree.specs.Laws.{Parted}
 use Rattle.tree.specs.Row.{Row, end, more, prepend, cut-by, flat, map-row, count, first-gap, last-gap, gap-at, set-first, meet, graft, front, back, relink, omit, replace}
@@ -93,6 +93,11 @@ module _ {X : Type 0} (P Q : X → Type 0) where
   parted-last (end g) p = p
   parted-last (more g x r) p = parted-last r (p .2)
 
+  pub parted-gap : (i : ℕ) (r : Row (List X) X) → Parted P Q r → All P (gap-at i r)
+  parted-gap zero r p = parted-first r p
+  parted-gap (suc i) (end g) p = p
+  parted-gap (suc i) (more g x r) p = parted-gap i r (p .2)
+
 -- a row with other gaps and items in the same places
 
 pub map-meet : {G H X Y : Type 0} (f : G → H) (s : X → Y) (r : Row G X) (h : G) (t : Row G X)
@@ -113,6 +118,11 @@ map-first f s (more g x r) = refl
 pub map-last : {G H X Y : Type 0} (f : G → H) (s : X → Y) (r : Row G X) → last-gap (map-row f s r) ≡ f (last-gap r)
 map-last f s (end g) = refl
 map-last f s (more g x r) = map-last f s r
+
+pub map-gap : {G H X Y : Type 0} (f : G → H) (s : X → Y) (i : ℕ) (r : Row G X) → gap-at i (map-row f s r) ≡ f (gap-at i r)
+map-gap f s zero r = map-first f s r
+map-gap f s (suc i) (end g) = refl
+map-gap f s (suc i) (more g x r) = map-gap f s i r
 
 pub map-count : {G H X Y : Type 0} (f : G → H) (s : X → Y) (r : Row G X) → count (map-row f s r) ≡ count r
 map-count f s (end g) = refl
@@ -153,3 +163,8 @@ omit-graft (more g y r) x s h = ap (more g y) (omit-graft r x s h)
 pub replace-graft : {G X : Type 0} (r : Row G X) (x y : X) (s : Row G X) → replace (count r) (graft r x s) y ≡ graft r y s
 replace-graft (end g) x y s = ap (more g y) (set-first-same s)
 replace-graft (more g z r) x y s = ap (more g z) (replace-graft r x y s)
+
+-- what holds of each element by two accounts
+pub both-all : {X : Type 0} (P Q R : X → Type 0) → ((x : X) → P x → Q x → R x) → (xs : List X) → All P xs → All Q xs → All R xs
+both-all P Q R f [] p q = tt
+both-all P Q R f (x ∷ xs) p q = (f x (p .0) (q .0), both-all P Q R f xs (p .1) (q .1))

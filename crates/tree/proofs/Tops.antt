@@ -9,15 +9,15 @@ use Rattle.std.specs.shelf.Lists.{All}
 use Rattle.std.proofs.shelf.Tests.{eq-eqb}
 use Rattle.digest.specs.Kind.{Kind}
 use Rattle.digest.specs.Layer.{layer}
-use Rattle.tree.specs.Change.{raise, rebuilt, shrunk, upward, one, both}
+use Rattle.tree.specs.Change.{raise, rebuilt, shrunk, upward, single, both}
 use Rattle.tree.specs.Map.{Item, Map}
-use Rattle.tree.specs.Path.{gap-of, path, sides, Split-path, split-path}
+use Rattle.tree.specs.Path.{gap-of, path, sides, Forked-path, forked-path}
 use Rattle.tree.specs.Row.{Row, end, more, map-row, count, graft}
 use Rattle.tree.specs.Tree.{at, cut, Leaf, Links, leaf, below, row, top, Placed, over-gaps, nodes-below}
 use Rattle.tree.proofs.Changes.{layers-of, under, sides-layers, split-complete, join-complete}
 use Rattle.tree.proofs.Layers.{Under, under-le, under-append, cut-above, row-above, keyless-under, keyed-top}
 use Rattle.tree.proofs.Nodes.{graft-from, graft-parts, inner, made, placed-rest}
-use Rattle.tree.proofs.Paths.{path-link, split-path-at}
+use Rattle.tree.proofs.Paths.{path-link, forked-path-at}
 use Rattle.tree.proofs.Places.{Around}
 use Rattle.tree.proofs.Rows.{cut-at}
 use Rattle.tree.proofs.Splits.{left-gap, right-gap}
@@ -65,15 +65,15 @@ module _ (κ : Kind) (P : Placed → Type 0) where
 
   -- an insert of a key above the old root
   pub insert-above-root : (j n : ℕ) (a : Map) (x : Item) (b : Map) → Around (x .key) a b → Under κ n a → Under κ n b → layer κ (x .key) ≡ up j n
-      → All P (upward (layers-of (split-path κ (suc (up j n)) (x .key) (a ++ (x ∷ b))))) → All P (nodes-below κ n (a ++ b)) → All P (nodes-below κ (suc (up j n)) (a ++ (x ∷ b)))
+      → All P (upward (layers-of (forked-path κ (suc (up j n)) (x .key) (a ++ (x ∷ b))))) → All P (nodes-below κ n (a ++ b)) → All P (nodes-below κ (suc (up j n)) (a ++ (x ∷ b)))
   insert-above-root j n a x b s u v e new old =
       let N = up j n in
       let f = nodes-below κ N in
       let t : at κ N x ≡ true = rw e (eq-eqb N N refl) in
       let ua = under-up κ j n a u in
       let ub = under-up κ j n b v in
-      let new′ = subst (λ (p : Split-path). All P (upward (layers-of p))) (split-path-at κ N (x .key) a b s x refl t) new in
-      let parts = under κ P N (one (row κ N (a ++ (x ∷ b)))) (map both (sides κ N (left-gap κ N a) (right-gap κ N b))) (sides-layers κ N (left-gap κ N a) (right-gap κ N b)) new′ in
+      let new′ = subst (λ (p : Forked-path). All P (upward (layers-of p))) (forked-path-at κ N (x .key) a b s x refl t) new in
+      let parts = under κ P N (single (row κ N (a ++ (x ∷ b)))) (map both (sides κ N (left-gap κ N a) (right-gap κ N b))) (sides-layers κ N (left-gap κ N a) (right-gap κ N b)) new′ in
       let lower : All P (upward (map both (sides κ N a b))) = rw (cut-above κ N a ua, cut-above κ N b ub) at (parts .0) in
       let halves = split-above j n a b u v lower old in
       let gaps : All P (over-gaps f (graft (end a) x (end b))) = graft-from P f (end a) x (end b) (halves .0) (halves .1) in
@@ -90,7 +90,7 @@ module _ (κ : Kind) (P : Placed → Type 0) where
 
   -- a delete of the only key on the old root's layer
   pub delete-top : (j n : ℕ) (k : List ℕ) (a : Map) (x : Item) (b : Map) → Around k a b → Under κ n a → Under κ n b → layer κ (x .key) ≡ up j n
-      → All P (upward (map one (path κ n k (a ++ b)))) → All P (nodes-below κ (suc (up j n)) (a ++ (x ∷ b))) → All P (nodes-below κ n (a ++ b))
+      → All P (upward (map single (path κ n k (a ++ b)))) → All P (nodes-below κ (suc (up j n)) (a ++ (x ∷ b))) → All P (nodes-below κ n (a ++ b))
   delete-top j n k a x b s u v e new old =
       let N = up j n in
       let f = nodes-below κ N in
@@ -101,18 +101,18 @@ module _ (κ : Kind) (P : Placed → Type 0) where
 
 -- the root of a path is the highest node with a key
 
-shrunk-keyed : (r : Links) (p : List Links) (l : Option (List ℕ)) (s : Leaf) (t : Links) → r ≡ more l s t → shrunk (r ∷ p) ≡ rebuilt r (map one p)
-shrunk-keyed r p l s t e = subst (λ (r : Links). shrunk (r ∷ p) ≡ rebuilt r (map one p)) (sym e) refl
+shrunk-keyed : (r : Links) (p : List Links) (l : Option (List ℕ)) (s : Leaf) (t : Links) → r ≡ more l s t → shrunk (r ∷ p) ≡ rebuilt r (map single p)
+shrunk-keyed r p l s t e = subst (λ (r : Links). shrunk (r ∷ p) ≡ rebuilt r (map single p)) (sym e) refl
 
 pub shrunk-path : (κ : Kind) (n : ℕ) (k : List ℕ) (m : Map) → Under κ n m
-    → shrunk (path κ n k m) ≡ rebuilt (row κ (top κ m) m) (map one (path κ (top κ m) k (gap-of κ (top κ m) k m)))
+    → shrunk (path κ n k m) ≡ rebuilt (row κ (top κ m) m) (map single (path κ (top κ m) k (gap-of κ (top κ m) k m)))
 shrunk-path κ zero k [] u = refl
 shrunk-path κ zero k (x ∷ m) u = absurd (omega (arith, u .0))
 shrunk-path κ (suc n) k m u = go (cut κ n m) refl (shrunk-path κ n k m)
   where
     go : (r : Row Map Item) → cut κ n m ≡ r
-        → (Under κ n m → shrunk (path κ n k m) ≡ rebuilt (row κ (top κ m) m) (map one (path κ (top κ m) k (gap-of κ (top κ m) k m))))
-        → shrunk (path κ (suc n) k m) ≡ rebuilt (row κ (top κ m) m) (map one (path κ (top κ m) k (gap-of κ (top κ m) k m)))
+        → (Under κ n m → shrunk (path κ n k m) ≡ rebuilt (row κ (top κ m) m) (map single (path κ (top κ m) k (gap-of κ (top κ m) k m))))
+        → shrunk (path κ (suc n) k m) ≡ rebuilt (row κ (top κ m) m) (map single (path κ (top κ m) k (gap-of κ (top κ m) k m)))
     go (end g) e rest =
         let v = keyless-under κ n m g u e in
         rw (path-above κ n k m v, rest v)

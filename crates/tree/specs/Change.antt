@@ -1,14 +1,20 @@
 -- How the tree changes with one key: from layer 0 upward, each node is made from the old node and what the layer below hands up.
 --
---   seal                      the link to a node
---   split                     the nodes on the two sides of a key that comes between
---   join                      the nodes of the path of a key that goes
---   insert-up, delete-up      the changed path
---   Rebuilt                   the new root, and the other new nodes
---   insert-path, delete-path  what an insert and a delete make of a path
---   handed                    the new nodes by layer from 0 up, from left to right
+--   link-to                      the link to a node
+--   link-up, left-up, right-up   what a layer hands up: the links to its nodes
+--   split                        the nodes on the two sides of a key that comes between
+--   join                         the nodes of the path of a key that goes
+--   with-item                    the node at the layer of a key that is inserted
+--   insert-up                    the forked path after an insert, from the path before it
+--   delete-up                    the path after a delete, from the forked path before it
+--   raise                        a path that begins higher up
+--   Rebuilt                      the new root, and the other new nodes
+--   placed, upward               the nodes among rows, of one layer and of all
+--   grown, shrunk                what is rebuilt from the path after an insert, and after a delete
+--   insert-path, delete-path     what an insert and a delete rebuild
+--   handed                       what is handed to a store, in this order
 --
--- Assumes nothing.
+-- A path has one row for each layer from the root's down to 0, so that its length is the root's layer and one. Assumes nothing.
 use mathlib.Core.Bool.{cond}
 use mathlib.Core.List.{List, [], _∷_, _++_, map}
 use Prim.Native.Nat.{ℕ, zero, suc, _-_}
@@ -19,28 +25,28 @@ use Rattle.std.specs.declared.option.Option.the-variants.{Some, None}
 use Rattle.digest.specs.Kind.{Kind}
 use Rattle.digest.specs.Layer.{layer}
 use Rattle.tree.specs.Map.{Item}
-use Rattle.tree.specs.Path.{place, has, Sides, Split-path}
+use Rattle.tree.specs.Path.{place, has, Sides, Forked-path}
 use Rattle.tree.specs.Row.{end, more, meet, graft, front, back, relink, omit, replace}
 use Rattle.tree.specs.Tree.{leaf, Links, digest, Placed, placed-at}
 
 -- null where it holds neither key nor link
-abbrev pub seal : Kind → Links → Option (List ℕ)
-seal κ (end None) = None
-seal κ (end (Some d)) = Some (digest κ (end (Some d)))
-seal κ (more l s r) = Some (digest κ (more l s r))
+abbrev pub link-to : Kind → Links → Option (List ℕ)
+link-to κ (end None) = None
+link-to κ (end (Some d)) = Some (digest κ (end (Some d)))
+link-to κ (more l s r) = Some (digest κ (more l s r))
 
--- what a layer hands up: the links to its nodes
+-- a list of layers begins with the highest
 abbrev pub link-up : Kind → List Links → Option (List ℕ)
 link-up κ [] = None
-link-up κ (r ∷ p) = seal κ r
+link-up κ (r ∷ p) = link-to κ r
 
 abbrev pub left-up : Kind → List Sides → Option (List ℕ)
 left-up κ [] = None
-left-up κ (s ∷ p) = seal κ (s .left)
+left-up κ (s ∷ p) = link-to κ (s .left)
 
 abbrev pub right-up : Kind → List Sides → Option (List ℕ)
 right-up κ [] = None
-right-up κ (s ∷ p) = seal κ (s .right)
+right-up κ (s ∷ p) = link-to κ (s .right)
 
 -- each node of a path is cut in two at k
 abbrev pub split : Kind → List ℕ → List Links → List Sides
@@ -61,7 +67,7 @@ with-item κ x r s =
     cond (has (x .key) r) (replace i r (leaf κ x)) (graft (front i r (left-up κ s)) (leaf κ x) (back i r (right-up κ s)))
 
 -- below the key's layer the path is split, above it one link changes
-abbrev pub insert-up : Kind → Item → List Links → Split-path
+abbrev pub insert-up : Kind → Item → List Links → Forked-path
 insert-up κ x [] = record { upper = []; lower = [] }
 insert-up κ x (r ∷ p) =
     let s = split κ (x .key) p in
@@ -87,14 +93,14 @@ pub record Rebuilt : Type 0 where
   pub root : Placed
   pub others : List Placed
 
--- of the rows of a layer those that are nodes
+-- a row with no key and no link is no node
 abbrev pub placed : ℕ → List Links → List Placed
 placed n [] = []
 placed n (end None ∷ rs) = placed n rs
 placed n (end (Some d) ∷ rs) = placed-at n (end (Some d)) ∷ placed n rs
 placed n (more l s r ∷ rs) = placed-at n (more l s r) ∷ placed n rs
 
--- of layers, the highest first, their nodes from layer 0 up
+-- of layers, the highest first, their nodes from layer 0 up, and within a layer from left to right
 abbrev pub upward : List (List Links) → List Placed
 upward [] = []
 upward (rs ∷ layers) = upward layers ++ placed (length layers) rs
@@ -102,29 +108,30 @@ upward (rs ∷ layers) = upward layers ++ placed (length layers) rs
 abbrev pub rebuilt : Links → List (List Links) → Rebuilt
 rebuilt r layers = record { root = placed-at (length layers) r; others = upward layers }
 
-abbrev pub one : Links → List Links
-one r = r ∷ []
+abbrev pub single : Links → List Links
+single r = r ∷ []
 
 abbrev pub both : Sides → List Links
 both s = s .left ∷ (s .right ∷ [])
 
--- the highest node is the root
+-- the highest node is the root; a path has one at least
 abbrev pub grown : List Links → List Sides → Rebuilt
 grown [] lower = rebuilt (end None) []
-grown (r ∷ upper) lower = rebuilt r (map one upper ++ map both lower)
+grown (r ∷ upper) lower = rebuilt r (map single upper ++ map both lower)
 
 -- the highest node that has a key is the root, or the empty map's node if none has
 abbrev pub shrunk : List Links → Rebuilt
 shrunk [] = rebuilt (end None) []
 shrunk (end l ∷ p) = shrunk p
-shrunk (more l s r ∷ p) = rebuilt (more l s r) (map one p)
+shrunk (more l s r ∷ p) = rebuilt (more l s r) (map single p)
 
 -- the path reaches up to the key's layer at least
 unfoldable pub insert-path : Kind → Item → List Links → Rebuilt
 insert-path κ x p = let s = insert-up κ x (raise κ (suc (layer κ (x .key)) - length p) p) in grown (s .upper) (s .lower)
 
-unfoldable pub delete-path : Kind → List ℕ → Split-path → Rebuilt
+unfoldable pub delete-path : Kind → List ℕ → Forked-path → Rebuilt
 delete-path κ k s = shrunk (delete-up κ k (s .upper) (join κ (s .lower)))
 
+-- the root is last
 abbrev pub handed : Rebuilt → List Placed
 handed new = new .others ++ (new .root ∷ [])

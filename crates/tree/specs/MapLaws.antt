@@ -1,4 +1,4 @@
--- The laws of maps.
+-- The laws of maps, which know nothing of trees.
 --
 --   Map-laws   what insert, delete and lookup do for each other, and that look-ups tell maps apart
 --
@@ -8,7 +8,8 @@ use mathlib.Core.List.{List}
 use mathlib.Core.Logic.{_≢_}
 use Prim.Native.Nat.{ℕ}
 use Rattle.std.specs.declared.option.Option.the-variants.{Some, None}
-use Rattle.tree.specs.Map.{Is-key, Is-record, Map, Is-map, Rising, insert, delete, lookup}
+use Rattle.std.specs.shelf.Lists.{Has}
+use Rattle.tree.specs.Map.{Is-key, Is-record, Item, Map, Is-map, Rising, insert, delete, lookup}
 
 pub record Map-laws : Type 0 where
   -- a map stays a map
@@ -22,5 +23,8 @@ pub record Map-laws : Type 0 where
   -- nothing happens where a key is set to the record that it has, or deleted where it is not there
   pub insert-same : (k v : List ℕ) (m : Map) → Rising m → lookup k m ≡ Some v → insert k v m ≡ m
   pub delete-absent : (k : List ℕ) (m : Map) → Rising m → lookup k m ≡ None → delete k m ≡ m
+  -- what a look-up finds is in the list, and what is in the list is found
+  pub found : (k v : List ℕ) (m : Map) → lookup k m ≡ Some v → Has m (record { key = k; value = v })
+  pub listed : (x : Item) (m : Map) → Rising m → Has m x → lookup (x .key) m ≡ Some (x .value)
   -- maps with equal look-ups are equal
   pub equal-lookups : (m n : Map) → Rising m → Rising n → ((k : List ℕ) → lookup k m ≡ lookup k n) → m ≡ n

@@ -1,12 +1,15 @@
--- Rows: gaps and what parts them, in turn. A map cut at the keys of a layer is a row, and so is a node with its links.
+-- Rows: a gap, an item, a gap, and so on to a last gap. A map that is cut at its keys of one layer is a row of maps and items; a node is a
+-- row of links and leaves.
 --
---   Row                   a gap, then again and again an item and the gap after it
+--   Row                   gaps, and the items that part them
+--   prepend               a row with one more element in front
 --   cut-by                a list as a row, whose items are the elements that pass a test
 --   flat                  such a row as a list again
 --   map-row               a row with other gaps and items in the same places
 --   count                 how many items there are
 --   first-gap, last-gap   the gaps at the ends
 --   gap-at                the gap behind a number of items
+--   set-first             a row with another first gap
 --   meet                  two rows around a gap
 --   graft                 two rows around an item
 --   front, back           the items before a place, and those from it on
@@ -14,7 +17,7 @@
 --   omit                  an item less, and a gap in the place of the two beside it
 --   replace               another item at a place
 --
--- Assumes nothing.
+-- Places past the end stand for the last gap. Assumes nothing.
 use mathlib.Core.Bool.{Bool, true, false}
 use mathlib.Core.List.{List, [], _∷_, _++_}
 use Prim.Native.Nat.{ℕ, zero, suc}
@@ -23,7 +26,7 @@ pub data Row (G X : Type 0) : Type 0 where
   end : G → Row G X
   more : G → X → Row G X → Row G X
 
--- a row with one more element in front: as an item it parts two gaps, else it joins the first gap
+-- as an item it parts two gaps, else it joins the first gap
 abbrev pub prepend : {X : Type 0} → Bool → X → Row (List X) X → Row (List X) X
 prepend true x r = more [] x r
 prepend false x (end g) = end (x ∷ g)
@@ -83,6 +86,7 @@ back zero r h = set-first h r
 back (suc i) (end g) h = end h
 back (suc i) (more g x r) h = back i r h
 
+-- meet puts h where front and back end, so that what they are given there does not matter
 abbrev pub relink : {G X : Type 0} → ℕ → Row G X → G → Row G X
 relink i r h = meet (front i r h) h (back i r h)
 

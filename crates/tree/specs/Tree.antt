@@ -1,18 +1,26 @@
 -- The tree of a map, under a digest kind.
 --
+--   at            whether a key is of a layer
 --   cut           a map parted by its keys of one layer
---   Leaf          what a node says of a key: the digest of its record
+--   Leaf          what a node says of a key
 --   Links         a node as a row: links, and leaves between them
 --   node-of       the node of a row
---   digest        the digest of a node
+--   row-of        the row of a node
+--   bytes-of      the bytes of a node
+--   digest        the digest of a node, by its row
+--   links         the row at a layer, for a given meaning of a link
 --   below         the link to the tree of a gap
---   row           the row of the node at a layer
+--   row           the row at a layer
 --   top           the layer of the root
---   root          the digest of the root
 --   Placed        a node, and its layer
+--   root-node     the node at the root
+--   root          its digest
+--   over-gaps     what there is of each gap, from left to right
+--   nodes-below   the nodes of the tree of a gap
 --   nodes         the nodes of the tree
 --   blocks        its blocks: the nodes and the records
---   crowded       whether a node has more keys than a node may have
+--   wide          a node with more keys than a node may have
+--   crowded       whether the tree has one
 --
 -- Assumes nothing.
 use mathlib.Core.Bool.{Bool, false, _||_}
@@ -35,6 +43,7 @@ at κ n x = eqb (layer κ (x .key)) n
 abbrev pub cut : Kind → ℕ → Map → Row Map Item
 cut κ n m = cut-by (at κ n) m
 
+-- the value is the digest of the key's record
 pub record Leaf : Type 0 where
   pub key : List ℕ
   pub value : List ℕ
@@ -52,6 +61,13 @@ entries-of (more l s r) = record { key = s .key; value = s .value; after = first
 
 abbrev pub node-of : Links → Node
 node-of r = record { first = first-gap r; entries = entries-of r }
+
+abbrev pub row-from : Option (List ℕ) → List Entry → Links
+row-from l [] = end l
+row-from l (e ∷ es) = more l (record { key = e .key; value = e .value }) (row-from (e .after) es)
+
+abbrev pub row-of : Node → Links
+row-of n = row-from (n .first) (n .entries)
 
 abbrev pub bytes-of : Kind → Node → List ℕ
 bytes-of κ n = encode (κ .code) n
@@ -77,9 +93,6 @@ abbrev pub top : Kind → Map → ℕ
 top κ [] = 0
 top κ (x ∷ m) = max (layer κ (x .key)) (top κ m)
 
-unfoldable pub root : Kind → Map → List ℕ
-root κ m = digest κ (row κ (top κ m) m)
-
 pub record Placed : Type 0 where
   pub layer : ℕ
   pub node : Node
@@ -87,7 +100,12 @@ pub record Placed : Type 0 where
 abbrev pub placed-at : ℕ → Links → Placed
 placed-at n r = record { layer = n; node = node-of r }
 
--- what f gives of each gap, from left to right
+abbrev pub root-node : Kind → Map → Placed
+root-node κ m = placed-at (top κ m) (row κ (top κ m) m)
+
+unfoldable pub root : Kind → Map → List ℕ
+root κ m = κ .hash (bytes-of κ (root-node κ m .node))
+
 abbrev pub over-gaps : {T : Type 0} → (Map → List T) → Row Map Item → List T
 over-gaps f (end g) = f g
 over-gaps f (more g x r) = f g ++ over-gaps f r
@@ -108,7 +126,7 @@ nodes κ m = node-and κ (nodes-below κ (top κ m)) (top κ m) m
 unfoldable pub blocks : Kind → Map → List (List ℕ)
 blocks κ m = map (λ t. bytes-of κ (t .node)) (nodes κ m) ++ map (λ x. x .value) m
 
--- a node may have 64 keys
+-- a node may have 64
 abbrev pub wide : Placed → Bool
 wide t = ltb 64 (length (t .node .entries))
 

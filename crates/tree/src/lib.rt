@@ -4,6 +4,7 @@
 //   maps_keep_what_they_are_told      the laws of insert, delete and lookup
 //   nodes_hold_the_keys_of_a_layer    what a node of the tree holds
 //   nodes_split_and_join              how nodes of parts of a map and of the whole come from each other
+//   paths_say_what_the_map_does       what the path of a key tells
 //   insert_rebuilds_a_path            the tree after an insert
 //   delete_rebuilds_a_path            the tree after a delete
 //   equal_roots_mean_equal_maps       what a root tells of the map
@@ -20,3 +21,4 @@ pub use root::blocks_fit_a_store;
 pub use root::equal_roots_mean_equal_maps;
 pub use shape::nodes_hold_the_keys_of_a_layer;
 pub use shape::nodes_split_and_join;
+pub use shape::paths_say_what_the_map_does;
