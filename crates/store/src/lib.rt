@@ -1,0 +1,14 @@
+// Block stores, known by what they mean.
+//
+//   Store        what every store answers: find, compare, put, free, cost
+//   Compared     whether a name is held, and whether for the block in hand
+//   Fault        why a call is refused
+//   BLOCK_LIMIT  the most bytes that a block has
+mod compared;
+mod fault;
+mod store;
+
+pub use compared::Compared;
+pub use fault::Fault;
+pub use store::BLOCK_LIMIT;
+pub use store::Store;
