@@ -3,12 +3,16 @@
 //   Store        what every store answers: find, compare, put, free, cost
 //   Compared     whether a name is held, and whether for the block in hand
 //   Fault        why a call is refused
+//   Draft        a store in front of another, which it leaves as it is
 //   BLOCK_LIMIT  the most bytes that a block has
 mod compared;
+mod draft;
 mod fault;
 mod store;
 
 pub use compared::Compared;
+pub use draft::Draft;
+pub use draft::DraftStore;
 pub use fault::Fault;
 pub use store::BLOCK_LIMIT;
 pub use store::Store;
