@@ -1,1 +1,3 @@
 pub mod Drafts
+pub mod Finds
+pub mod Copies

@@ -2,3 +2,4 @@ pub mod Meaning
 pub mod Answer
 pub mod Calls
 pub mod Drafts
+pub mod Copies

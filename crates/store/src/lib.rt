@@ -4,13 +4,16 @@
 //   Compared     whether a name is held, and whether for the block in hand
 //   Fault        why a call is refused
 //   Draft        a store in front of another, which it leaves as it is
+//   copy_block   a block from one store to another
 //   BLOCK_LIMIT  the most bytes that a block has
 mod compared;
+mod copy;
 mod draft;
 mod fault;
 mod store;
 
 pub use compared::Compared;
+pub use copy::copy_block;
 pub use draft::Draft;
 pub use draft::DraftStore;
 pub use fault::Fault;
