@@ -3,3 +3,4 @@ pub mod Answer
 pub mod Calls
 pub mod Drafts
 pub mod Copies
+pub mod Runs
