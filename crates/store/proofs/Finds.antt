@@ -1,7 +1,7 @@
 -- What a block that was found tells of the store, for callers of find. Assumes nothing.
 use mathlib.Core.Path.{_≡_, refl, sym, ap, _∙_}
 use mathlib.Core.Bool.{Bool, true, false, cond}
-use mathlib.Core.List.{List, _++_}
+use mathlib.Core.List.{List}
 use Prim.Native.Nat.{ℕ}
 use native.Mathlib.Omega.{arith}
 use lib.Dec.{ltb}
@@ -10,7 +10,7 @@ use Rattle.std.specs.Options.{mapped}
 use Rattle.std.specs.declared.option.Option.{Option}
 use Rattle.std.specs.declared.option.Option.the-variants.{Some, None}
 use Rattle.std.proofs.shelf.Lists.{take-at}
-use Rattle.store.specs.Answer.{Answer, done, refused}
+use Rattle.store.specs.Answer.{done, refused}
 use Rattle.store.specs.Calls.{find-answer, find-buffer, over}
 use Rattle.store.specs.Meaning.{Meaning, block-limit}
 

@@ -1,4 +1,4 @@
-pub mod Drafts
 pub mod Finds
 pub mod Copies
 pub mod Runs
+pub mod Outcomes

@@ -2,7 +2,7 @@
 use mathlib.Core.Path.{_≡_, refl, sym, ap, subst, _∙_}
 use mathlib.Core.Bool.{Bool, true, false, cond}
 use mathlib.Core.List.{List, [], _∷_}
-use Prim.Native.Nat.{ℕ, _+_, _-_, _≤_}
+use Prim.Native.Nat.{ℕ, _-_, _≤_}
 use native.Mathlib.Omega.{arith}
 use lib.Dec.{ltb}
 use lib.ListN.{length}
@@ -13,7 +13,7 @@ use Rattle.std.proofs.shelf.Equals.{sameBytes-decides}
 use Rattle.std.proofs.shelf.Tests.{ltb-false}
 use Rattle.store.specs.Calls.{Outcome, too-long, held-already, conflict, no-room, added, compared, settled, outcome, left-by, put-after, with-block, with-pair}
 use Rattle.store.specs.Meaning.{Meaning, block-limit}
-use Rattle.store.specs.Runs.{Call, finding, comparing, putting, asking-free, asking-cost, Step, Run, Pair, spent, with-all, Fresh, Grown}
+use Rattle.store.specs.Runs.{Call, finding, comparing, putting, asking-free, asking-cost, Step, Run, Pair, Grown}
 use Rattle.store.specs.declared.compared.Compared.{Compared}
 use Rattle.store.specs.declared.compared.Compared.the-variants.{Absent, Same, Other}
 

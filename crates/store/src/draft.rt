@@ -2,7 +2,7 @@
 ghost use mathlib.Core.Path.{_≡_};
 ghost use Rattle.store.specs.Answer.{told};
 ghost use Rattle.store.specs.Calls.{put-answer, put-after};
-ghost use Rattle.store.specs.Drafts.{draft-of};
+ghost use Rattle.store.specs.Drafts.{draft-of, draft-lawful};
 use crate::compared::Compared;
 use crate::fault::Fault;
 use crate::store::BLOCK_LIMIT;
@@ -17,6 +17,8 @@ pub struct Draft<F, B> {
 
 pub impl<F: Store, B: Store> Store for Draft<F, B> as DraftStore {
     ghost meaning = { λ d. draft-of (F·Store .meaning (d .front)) (B·Store .meaning (d .back)) };
+
+    ghost lawful = { λ d. draft-lawful (F·Store .meaning (d .front)) (B·Store .meaning (d .back)) (F·Store .lawful (d .front)) (B·Store .lawful (d .back)) };
 
     fn find(&self, name: &Digest, out: &mut [u8]) -> Result<Option<usize>, Fault> {
         match self.front.find(name, out) {

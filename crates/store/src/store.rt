@@ -15,7 +15,9 @@ pub trait Store {
     // What the store means: the block under each name, the free units, and what a block of each length costs.
     ghost meaning: { Self → Meaning };
 
-    law lawful: { (s : Self) → Lawful (meaning s) };
+    // Names are 32 bytes, blocks keep the limit, and nothing is free of cost. Each impl gives the proof: a `law` would say the same, and has
+    // no generated proof where an impl has a lifetime parameter.
+    ghost lawful: { (s : Self) → Lawful (meaning s) };
 
     // Copies the block of this name to the start of `out`, and answers its length; none where the name is absent. Past the block, and
     // where none is copied, `out` stays as it is.
