@@ -1,5 +1,7 @@
 // Why a store refuses a call.
 
+mod number;
+
 #[derive(Clone, Copy)]
 pub enum Fault {
     // The block that is put has more bytes than a block may have.
