@@ -1,0 +1,4 @@
+pub mod Slot
+pub mod Memory
+pub mod Room
+pub mod Lawful

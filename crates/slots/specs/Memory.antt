@@ -1,0 +1,45 @@
+-- What memory means that is cut into slots.
+--
+--   slots-in         the slots of memory: one for each whole slot size
+--   holds            whether a slot is used under a name
+--   held-in          the block under a name
+--   unused           how many slots are unused
+--   slots-meaning    the store of these slots, in which every block costs one unit
+--   without-pairs    the store of so many unused slots
+--
+-- Assumes nothing.
+use mathlib.Core.Bool.{Bool, cond, _&&_}
+use mathlib.Core.List.{List, [], _∷_}
+use Prim.Native.Nat.{ℕ, _+_, _/_}
+use lib.ListN.{length}
+use Rattle.std.specs.Vectors.{chunked}
+use Rattle.std.specs.declared.option.Option.{Option}
+use Rattle.std.specs.declared.option.Option.the-variants.{Some, None}
+use Rattle.std.specs.shelf.Text.{sameBytes}
+use Rattle.store.specs.Meaning.{Meaning}
+use Rattle.slots.specs.Slot.{slot-size, slot-name, slot-block, is-used}
+
+abbrev pub slots-in : List ℕ → List (List ℕ)
+slots-in memory = chunked slot-size (length memory / slot-size) memory
+
+abbrev pub holds : List ℕ → List ℕ → Bool
+holds slot name = is-used slot && sameBytes (slot-name slot) name
+
+-- of the first slot that holds it
+abbrev pub held-in : List (List ℕ) → List ℕ → Option (List ℕ)
+held-in [] name = None
+held-in (slot ∷ slots) name = cond (holds slot name) (Some (slot-block slot)) (held-in slots name)
+
+abbrev pub unused : List (List ℕ) → ℕ
+unused [] = 0
+unused (slot ∷ slots) = cond (is-used slot) 0 1 + unused slots
+
+abbrev pub slots-meaning : List ℕ → Meaning
+slots-meaning memory = record {
+  held = held-in (slots-in memory);
+  free = unused (slots-in memory);
+  cost = λ len. 1;
+}
+
+abbrev pub without-pairs : ℕ → Meaning
+without-pairs n = record { held = λ name. None; free = n; cost = λ len. 1 }
