@@ -19,9 +19,11 @@ use Rattle.std.specs.shelf.Text.{sameBytes}
 use Rattle.store.specs.Meaning.{Meaning}
 use Rattle.slots.specs.Slot.{slot-size, slot-name, slot-block, is-used}
 
+-- from the start of the memory; what is left behind the last is no slot
 abbrev pub slots-in : List ℕ → List (List ℕ)
 slots-in memory = chunked slot-size (length memory / slot-size) memory
 
+-- a used slot, with the same 32 bytes
 abbrev pub holds : List ℕ → List ℕ → Bool
 holds slot name = is-used slot && sameBytes (slot-name slot) name
 
@@ -30,10 +32,12 @@ abbrev pub held-in : List (List ℕ) → List ℕ → Option (List ℕ)
 held-in [] name = None
 held-in (slot ∷ slots) name = cond (holds slot name) (Some (slot-block slot)) (held-in slots name)
 
+-- each of them a free unit
 abbrev pub unused : List (List ℕ) → ℕ
 unused [] = 0
 unused (slot ∷ slots) = cond (is-used slot) 0 1 + unused slots
 
+-- read off the bytes
 abbrev pub slots-meaning : List ℕ → Meaning
 slots-meaning memory = record {
   held = held-in (slots-in memory);
@@ -41,5 +45,6 @@ slots-meaning memory = record {
   cost = λ len. 1;
 }
 
+-- so many free units
 abbrev pub without-pairs : ℕ → Meaning
 without-pairs n = record { held = λ name. None; free = n; cost = λ len. 1 }

@@ -15,13 +15,15 @@ use Rattle.slots.specs.Slot.{slot-size}
 use Rattle.slots.specs.declared.fault.MemoryFault.{MemoryFault}
 use Rattle.slots.specs.declared.fault.MemoryFault.the-variants.{NoSlot}
 
+-- the only one
 abbrev pub memory-number : MemoryFault → ℕ
 memory-number NoSlot = 14
 
+-- the fault by its number
 abbrev pub memory-told : Result (Unit {0}) MemoryFault → Answer (Unit {0})
 memory-told (Ok x) = done x
 memory-told (Err fault) = refused (memory-number fault)
 
 -- of memory of so many bytes
 abbrev pub memory-answer : ℕ → Answer (Unit {0})
-memory-answer size = cond (ltb size slot-size) (refused 14) (done tt)
+memory-answer size = cond (ltb size slot-size) (refused (memory-number NoSlot)) (done tt)

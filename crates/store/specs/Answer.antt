@@ -21,16 +21,19 @@ pub data Answer (X : Type 0) : Type 0 where
   -- the call was refused, under this number
   refused : ℕ → Answer X
 
+-- each number once, so that an answer tells the fault
 abbrev pub number : Fault → ℕ
 number BlockTooLong = 2
 number BufferTooShort = 3
 number Conflict = 10
 number NoRoom = 11
 
+-- faults by their numbers
 abbrev pub told : {X : Type 0} → Result X Fault → Answer X
 told (Ok x) = done x
 told (Err fault) = refused (number fault)
 
+-- beside the bytes that the buffer has
 abbrev pub Within : Result (Option ℕ) Fault → ℕ → Type 0
 Within (Ok (Some len)) room = (len ≤ block-limit) × (block-limit ≤ room)
 Within (Ok None) room = block-limit ≤ room

@@ -13,6 +13,7 @@ use Rattle.std.specs.declared.option.Option.{Option}
 use Rattle.std.specs.declared.option.Option.the-variants.{Some, None}
 use Rattle.store.specs.Meaning.{Meaning, Lawful, block-limit}
 
+-- the first comes first
 abbrev pub or-else : Option (List ℕ) → Option (List ℕ) → Option (List ℕ)
 or-else None behind = behind
 or-else (Some block) behind = Some block

@@ -13,6 +13,7 @@ use lib.ListN.{length}
 use Rattle.std.specs.declared.option.Option.{Option}
 use Rattle.std.specs.declared.option.Option.the-variants.{Some, None}
 
+-- enough for every node of the tree and every record
 abbrev pub block-limit : ℕ
 block-limit = 10752
 
@@ -32,5 +33,6 @@ pub record Lawful (m : Meaning) : Type 0 where
   -- a block costs at least one unit
   pub cost-least : (len : ℕ) → 1 ≤ m .cost len
 
+-- every name is absent
 abbrev pub Unused : Meaning → Type 0
 Unused m = (name : List ℕ) → m .held name ≡ None

@@ -41,11 +41,12 @@ Step (putting name block answer) m n = (answer ≡ put-answer m name block) × (
 Step (asking-free answer) m n = (answer ≡ m .free) × (n ≡ m)
 Step (asking-cost len answer) m n = (answer ≡ m .cost len) × (n ≡ m)
 
--- from one store to another
+-- from the store before the first call to the store after the last
 abbrev pub Run : List Call → Meaning → Meaning → Type 0
 Run [] m n = n ≡ m
 Run (call ∷ calls) m n = (k : Meaning) × Run calls m k × Step call k n
 
+-- what a store holds
 pub record Pair : Type 0 where
   pub name : List ℕ
   pub block : List ℕ
@@ -55,10 +56,12 @@ abbrev pub spent : (ℕ → ℕ) → List Pair → ℕ
 spent cost [] = 0
 spent cost (p ∷ ps) = cost (length (p .block)) + spent cost ps
 
+-- one after the other, the last of the list first
 abbrev pub with-all : (List ℕ → Option (List ℕ)) → List Pair → List ℕ → Option (List ℕ)
 with-all held [] = held
 with-all held (p ∷ ps) = with-block (with-all held ps) (p .name) (p .block)
 
+-- each name was absent when its pair came
 abbrev pub Fresh : (List ℕ → Option (List ℕ)) → List Pair → Type 0
 Fresh held [] = Unit {0}
 Fresh held (p ∷ ps) = (with-all held ps (p .name) ≡ None) × Fresh held ps
