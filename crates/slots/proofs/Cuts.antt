@@ -1,4 +1,4 @@
--- A slot that is written in memory is one slot of the cut memory, and the others stay. Assumes nothing.
+-- A slot that is written in memory is one slot of the cut memory, and all else stays. Assumes nothing.
 use mathlib.Core.Path.{_≡_, refl, sym, ap, _∙_}
 use mathlib.Core.List.{List, [], _∷_, _++_}
 use Prim.Native.Nat.{ℕ, zero, suc, _+_, _-_, _*_, _/_, _<_, _≤_}
@@ -8,8 +8,8 @@ use lib.ListN.{length, getD, take, drop, set}
 use borrow.Rule.Slice.PartMut.{putMid}
 use Rattle.std.specs.Vectors.{chunked}
 use Rattle.std.proofs.shelf.Lists.{drop-at, drop-append-le, drop-drop, drop-take, length-append, length-drop, length-take, take-at}
-use Rattle.std.proofs.shelf.Parts.{take-putMid-below}
-use Rattle.slots.specs.Memory.{slots-in}
+use Rattle.std.proofs.shelf.Parts.{drop-putMid, take-putMid-below}
+use Rattle.slots.specs.Memory.{slots-in, left-over}
 
 pub length-chunked : (n k : ℕ) (m : List ℕ) → length (chunked n k m) ≡ k
 length-chunked n zero m = refl
@@ -74,3 +74,15 @@ slot-changed change m w i within long is =
     ap (λ n. slots-in (putMid (i * 10788) n m w)) size
     ∙ slot-written m w i within full
     ∙ ap (set (slots-in m) i) (is ∙ ap change whole)
+
+-- and what belongs to no slot stays
+pub left-over-kept : (m w : List ℕ) (i : ℕ)
+    → i < length m / 10788
+    → length w ≡ length (take (i * 10788 + 10788 - i * 10788) (drop (i * 10788) m))
+    → left-over (putMid (i * 10788) (i * 10788 + 10788 - i * 10788) m w) ≡ left-over m
+left-over-kept m w i within long =
+    let a = i * 10788 in
+    let k = i * 10788 + 10788 - i * 10788 in
+    let full : length w ≡ k = long ∙ omega (arith, length-take k (drop a m), length-drop a m) in
+    let size = length-put a k m w (omega arith) full in
+    rw size (drop-putMid a k m w (length m / 10788 * 10788) (omega arith) (omega arith) full)

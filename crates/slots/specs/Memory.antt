@@ -1,6 +1,7 @@
 -- What memory means that is cut into slots.
 --
 --   slots-in         the slots of memory: one for each whole slot size
+--   left-over        what is left behind the last whole slot
 --   holds            whether a slot is used under a name
 --   held-in          the block under a name
 --   unused           how many slots are unused
@@ -10,8 +11,8 @@
 -- Assumes nothing.
 use mathlib.Core.Bool.{Bool, cond, _&&_}
 use mathlib.Core.List.{List, [], _∷_}
-use Prim.Native.Nat.{ℕ, _+_, _/_}
-use lib.ListN.{length}
+use Prim.Native.Nat.{ℕ, _+_, _*_, _/_}
+use lib.ListN.{length, drop}
 use Rattle.std.specs.Vectors.{chunked}
 use Rattle.std.specs.declared.option.Option.{Option}
 use Rattle.std.specs.declared.option.Option.the-variants.{Some, None}
@@ -22,6 +23,10 @@ use Rattle.slots.specs.Slot.{slot-size, slot-name, slot-block, is-used}
 -- from the start of the memory; what is left behind the last is no slot
 abbrev pub slots-in : List ℕ → List (List ℕ)
 slots-in memory = chunked slot-size (length memory / slot-size) memory
+
+-- it belongs to no slot
+abbrev pub left-over : List ℕ → List ℕ
+left-over memory = drop (length memory / slot-size * slot-size) memory
 
 -- a used slot, with the same 32 bytes
 abbrev pub holds : List ℕ → List ℕ → Bool

@@ -1,4 +1,4 @@
-// Memory that is cut into slots. What is left behind the last whole slot is never looked at.
+// Memory that is cut into slots. What is left behind the last whole slot stays as it is.
 ghost use mathlib.Core.Path.{_≡_};
 ghost use mathlib.Core.Bool.{false};
 ghost use mathlib.Core.List.{[]};
@@ -8,7 +8,7 @@ ghost use Rattle.std.specs.Options.{Cases as BySome};
 ghost use Rattle.std.specs.declared.option.Option.the-variants.{Some, None};
 ghost use Rattle.store.specs.Answer.{told};
 ghost use Rattle.store.specs.Calls.{put-answer, put-after};
-ghost use Rattle.slots.specs.Memory.{slots-in, held-in, unused, slots-meaning, without-pairs};
+ghost use Rattle.slots.specs.Memory.{slots-in, left-over, held-in, unused, slots-meaning, without-pairs};
 ghost use Rattle.slots.specs.Slot.{is-used, filled};
 use crate::slot::SLOT_SIZE;
 use crate::slot::block_in;
@@ -65,6 +65,7 @@ fn fill_place(memory: &mut [u8], place: usize, name: &Digest, block: &[u8])
     requires within { ⌜ place < length (now memory) / 10788 ⌝ }
     requires short { ⌜ length (now block) ≤ 10752 ⌝ }
     ensures after { λ _. ⌜ slots-in (now (memory .exit)) ≡ set (slots-in (now (memory .entry))) place (filled (now (name .entry) .bytes) (now (block .entry)) (getD (slots-in (now (memory .entry))) place [])) ⌝ }
+    ensures rest { λ _. ⌜ left-over (now (memory .exit)) ≡ left-over (now (memory .entry)) ⌝ }
     ensures name_size { λ _. ⌜ length (now (name .entry) .bytes) ≡ 32 ⌝ }
 {
     let at = place * SLOT_SIZE;
@@ -77,6 +78,7 @@ pub(crate) fn add_pair(memory: &mut [u8], name: &Digest, block: &[u8]) -> Result
     requires absent { ⌜ held-in (slots-in (now memory)) (now name .bytes) ≡ None ⌝ }
     ensures answer { λ r. ⌜ told r ≡ put-answer (slots-meaning (now (memory .entry))) (now (name .entry) .bytes) (now (block .entry)) ⌝ }
     ensures after { λ _. ⌜ slots-meaning (now (memory .exit)) ≡ put-after (slots-meaning (now (memory .entry))) (now (name .entry) .bytes) (now (block .entry)) ⌝ }
+    ensures rest { λ _. ⌜ left-over (now (memory .exit)) ≡ left-over (now (memory .entry)) ⌝ }
 {
     let Some(place) = find_unused(memory) else {
         return Err(Fault::NoRoom);
@@ -87,7 +89,8 @@ pub(crate) fn add_pair(memory: &mut [u8], name: &Digest, block: &[u8]) -> Result
 
 // Marks every slot as unused.
 pub(crate) fn empty_all(memory: &mut [u8])
-    ensures { λ _. ⌜ slots-meaning (now (memory .exit)) ≡ without-pairs (length (now (memory .entry)) / 10788) ⌝ }
+    ensures after { λ _. ⌜ slots-meaning (now (memory .exit)) ≡ without-pairs (length (now (memory .entry)) / 10788) ⌝ }
+    ensures rest { λ _. ⌜ left-over (now (memory .exit)) ≡ left-over (now (memory .entry)) ⌝ }
 {
     let count = memory.len() / SLOT_SIZE;
     for place in 0..count {

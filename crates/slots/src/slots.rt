@@ -3,8 +3,10 @@ ghost use mathlib.Core.Path.{_≡_};
 ghost use Prim.Native.Nat.{_/_};
 ghost use lib.ListN.{length};
 ghost use denote.Ref.{now as behind};
+ghost use Rattle.store.specs.Answer.{told};
+ghost use Rattle.store.specs.Calls.{put-answer, put-after};
 ghost use Rattle.slots.specs.Lawful.{slots-lawful};
-ghost use Rattle.slots.specs.Memory.{slots-meaning, without-pairs};
+ghost use Rattle.slots.specs.Memory.{left-over, slots-meaning, without-pairs};
 ghost use Rattle.slots.specs.Room.{memory-told, memory-answer};
 use crate::fault::MemoryFault;
 use crate::memory::add_pair;
@@ -35,9 +37,10 @@ impl<'a> Slots<'a> {
         Ok(())
     }
 
-    // The store over this memory, with every slot unused.
+    // The store over this memory, with every slot unused. What is left behind the last whole slot stays as it is.
     pub fn new(memory: &'a mut [u8]) -> Slots<'a>
-        ensures { λ r. ⌜ slots-meaning (now (r .memory)) ≡ without-pairs (length (now (memory .entry)) / 10788) ⌝ }
+        ensures after { λ r. ⌜ slots-meaning (now (r .memory)) ≡ without-pairs (length (now (memory .entry)) / 10788) ⌝ }
+        ensures rest { λ r. ⌜ left-over (now (r .memory)) ≡ left-over (now (memory .entry)) ⌝ }
     {
         empty_all(memory);
         Slots { memory }
@@ -72,7 +75,11 @@ pub impl Store for Slots<'_> as SlotsStore {
         }
     }
 
-    fn put(&mut self, name: &Digest, block: &[u8]) -> Result<(), Fault> {
+    fn put(&mut self, name: &Digest, block: &[u8]) -> Result<(), Fault>
+        ensures answer { λ r. ⌜ told r ≡ put-answer (slots-meaning (now (now (self .entry) .memory))) (now (name .entry) .bytes) (now (block .entry)) ⌝ }
+        ensures after { λ _. ⌜ slots-meaning (now (now (self .exit) .memory)) ≡ put-after (slots-meaning (now (now (self .entry) .memory))) (now (name .entry) .bytes) (now (block .entry)) ⌝ }
+        ensures rest { λ _. ⌜ left-over (now (now (self .exit) .memory)) ≡ left-over (now (now (self .entry) .memory)) ⌝ }
+    {
         if block.len() > BLOCK_LIMIT {
             return Err(Fault::BlockTooLong);
         }

@@ -1,5 +1,5 @@
 -- An unused slot takes the pair; without one the store is full.
-use mathlib.Core.Path.{sym, ap, _∙_}
+use mathlib.Core.Path.{refl, sym, ap, _∙_}
 use Prim.Native.Nat.{_<_}
 use native.Mathlib.Omega.{arith}
 use lib.ListN.{length}
@@ -16,7 +16,7 @@ returns-in-rest c =
     let name = c .args .name .now .bytes in
     let block = c .args .block .now in
     let o = outcome-full m name block (c .pre .short) (c .pre .absent) (omega (arith, c .in-rest .ensures tt)) in
-    record { answer = sym (ap answer-of o); after = sym (ap (λ k. left-by k m name block) o) }
+    record { answer = sym (ap answer-of o); after = sym (ap (λ k. left-by k m name block) o); rest = refl }
 
 pub returns : need.returns
 returns c =
@@ -34,4 +34,5 @@ returns c =
       after =
           pair-added memory (c .fill-place .last .memory) place name block within free (c .pre .absent) (c .fill-place .ensures .name-size) (c .pre .short) (c .fill-place .ensures .after)
           ∙ sym (ap (λ k. left-by k m name block) o);
+      rest = c .fill-place .ensures .rest;
     }
