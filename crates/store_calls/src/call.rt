@@ -1,4 +1,6 @@
 // A call, and the line that it prints.
+ghost use mathlib.Core.Path.{_≡_};
+ghost use lib.ListN.{replicate};
 use crate::buffer::MARK;
 use crate::buffer::untouched;
 use digest::Digest;
@@ -30,7 +32,10 @@ pub(crate) enum Call {
     },
 }
 
-pub(crate) fn name_of(byte: u8) -> Digest {
+// 32 times the byte.
+pub(crate) fn name_of(byte: u8) -> Digest
+    ensures { λ r. ⌜ r .bytes ≡ replicate 32 byte ⌝ }
+{
     Digest { bytes: [byte; 32] }
 }
 
