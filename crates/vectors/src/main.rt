@@ -1,6 +1,9 @@
-// Prints digests and layers of known messages; the gate compares them with the values in `stdout`, which come from elsewhere.
+// Prints digests and layers of known messages, and roots of known trees; the gate compares them with the values in `stdout`, which come from
+// elsewhere.
 mod messages;
+mod trees;
 
+use digest::Digest;
 use digest::DigestKind;
 use digest::Fold;
 use digest::FoldDigestKind;
@@ -9,6 +12,9 @@ use messages::counted;
 use sha256::Sha256;
 use sha256::Sha256DigestKind;
 use std::error::AnyError;
+use trees::empty_root;
+use trees::five_root;
+use trees::lone_root;
 
 // Lengths on both sides of each place where the padding of SHA-256 changes its shape.
 const LENGTHS: [usize; 16] = [
@@ -47,7 +53,8 @@ fn run(rt: &LibcRuntime) -> Result<(), AnyError> {
     for len in [0, 1, 31, 32, 33, 64, 65, 1000] {
         digest_line::<Fold>(rt, "fold", "counted", counted(rt.alloc(), len)?.as_slice())?;
     }
-    layers(rt)
+    layers(rt)?;
+    roots(rt)
 }
 
 // The examples that were published with the standard.
@@ -71,6 +78,31 @@ fn layers(rt: &LibcRuntime) -> Result<(), AnyError> {
         let layer = layer_of::<Fold>(key.as_slice());
         println!(rt, "layer fold 3f after {zeros} {layer}")?;
     }
+    Ok(())
+}
+
+// The roots of some trees.
+fn roots(rt: &LibcRuntime) -> Result<(), AnyError> {
+    root_line(rt, "empty", empty_root())?;
+    for key in messages::LONE_KEYS {
+        root_line(rt, key, lone_root(key))?;
+    }
+    for key in messages::FIVE_KEYS {
+        let layer = layer_of::<Sha256>(key.as_bytes());
+        println!(rt, "layer sha256 {key} {layer}")?;
+    }
+    root_line(rt, "of five", five_root(messages::FIVE_KEYS))
+}
+
+// One line: which tree, and its root.
+fn root_line(rt: &LibcRuntime, tree: &str, root: Option<Digest>) -> Result<(), AnyError> {
+    let Some(root) = root else {
+        println!(rt, "root {tree} none")?;
+        return Ok(());
+    };
+    let hex = root.to_hex();
+    let text = std::str::from_utf8(&hex)?;
+    println!(rt, "root {tree} {text}")?;
     Ok(())
 }
 

@@ -25,6 +25,20 @@ pub const KEYS: [&str; 7] = [
     "app.bsky.feed.post/9adeb165882c",
 ];
 
+// Keys of trees with one key, and with five.
+pub const LONE_KEYS: [&str; 2] = [
+    "com.example.record/3jqfcqzm3fo2j",
+    "com.example.record/3jqfcqzm3fx2j",
+];
+
+pub const FIVE_KEYS: [&str; 5] = [
+    "com.example.record/3jqfcqzm3fp2j",
+    "com.example.record/3jqfcqzm3fr2j",
+    "com.example.record/3jqfcqzm3fs2j",
+    "com.example.record/3jqfcqzm3ft2j",
+    "com.example.record/3jqfcqzm4fc2j",
+];
+
 // The bytes 0 to 250, again and again, `len` of them.
 pub(crate) fn counted(heap: Global, len: usize) -> Result<Vec<u8>, AllocError>
     ensures { λ r. ⌜ made r (λ v. vec-items v ≡ counted-bytes len) ⌝ }
