@@ -1,14 +1,16 @@
 // A call, and the line that it prints.
 ghost use mathlib.Core.Path.{_≡_};
-ghost use lib.ListN.{replicate};
+ghost use lib.ListN.{replicate, set};
 use crate::buffer::MARK;
 use crate::buffer::untouched;
 use digest::Digest;
+use std::alloc::AllocError;
+use std::alloc::Global;
 use std::error::AnyError;
 use store::Compared;
 use store::Store;
 
-// A name is 32 times one byte, and a block is `len` times one byte.
+// A name is told by its last byte, and a block by its length and its first byte.
 #[derive(Clone, Copy)]
 pub(crate) enum Call {
     // The free units, and what the shortest and the longest block cost.
@@ -32,11 +34,22 @@ pub(crate) enum Call {
     },
 }
 
-// 32 times the byte.
+// 31 times 00, and the byte: names differ in the last place only.
 pub(crate) fn name_of(byte: u8) -> Digest
-    ensures { λ r. ⌜ r .bytes ≡ replicate 32 byte ⌝ }
+    ensures { λ r. ⌜ r .bytes ≡ set (replicate 32 0) 31 byte ⌝ }
 {
-    Digest { bytes: [byte; 32] }
+    let mut bytes = [0; 32];
+    bytes[31] = byte;
+    Digest { bytes }
+}
+
+// `len` bytes that rise from the first on, and start again.
+fn block_of(heap: Global, len: usize, first: u8) -> Result<Vec<u8>, AllocError> {
+    let mut block = Vec::new(heap);
+    for i in 0..len {
+        block.push(first.wrapping_add((i % 256) as u8))?;
+    }
+    Ok(block)
 }
 
 // Makes the call, and prints its line.
@@ -48,7 +61,7 @@ pub(crate) fn carry_out<S: Store>(
     match call {
         Call::Units => units(rt, store),
         Call::Put { name, len, byte } => {
-            let block = vec![in rt.alloc(); byte; len]?;
+            let block = block_of(rt.alloc(), len, byte)?;
             put(rt, store, name, block.as_slice())
         }
         Call::Find {
@@ -57,11 +70,11 @@ pub(crate) fn carry_out<S: Store>(
             byte,
             room,
         } => {
-            let block = vec![in rt.alloc(); byte; len]?;
+            let block = block_of(rt.alloc(), len, byte)?;
             find(rt, store, name, block.as_slice(), room)
         }
         Call::Compare { name, len, byte } => {
-            let block = vec![in rt.alloc(); byte; len]?;
+            let block = block_of(rt.alloc(), len, byte)?;
             compare(rt, store, name, block.as_slice())
         }
     }
