@@ -1,15 +1,14 @@
 -- Walks over slots: what is passed, and what is found. Assumes nothing.
 use mathlib.Core.Path.{_≡_, refl, _∙_}
-use mathlib.Core.Bool.{Bool, true, false, _&&_}
+use mathlib.Core.Bool.{true, false}
 use mathlib.Core.List.{List, [], _∷_}
 use Prim.Native.Nat.{ℕ, suc, _+_, _<_}
 use native.Mathlib.Omega.{arith}
 use lib.ListN.{length, getD, drop}
 use Rattle.std.specs.declared.option.Option.the-variants.{Some, None}
-use Rattle.std.specs.shelf.Text.{sameBytes}
 use Rattle.std.proofs.shelf.Lists.{at-drop-more}
 use Rattle.slots.specs.Memory.{holds, held-in, unused}
-use Rattle.slots.specs.Slot.{is-used, slot-name, slot-block}
+use Rattle.slots.specs.Slot.{is-used, slot-block}
 
 pub held-skip : (ss : List (List ℕ)) (i : ℕ) (name : List ℕ) → i < length ss → holds (getD ss i []) name ≡ false → held-in (drop i ss) name ≡ held-in (drop (i + 1) ss) name
 held-skip ss i name within passed = at-drop-more (λ rest. held-in rest name) ss i [] within ∙ rw passed
@@ -22,13 +21,6 @@ unused-skip ss i within used = at-drop-more unused ss i [] within ∙ rw used (o
 
 pub unused-here : (ss : List (List ℕ)) (i : ℕ) → i < length ss → is-used (getD ss i []) ≡ false → unused (drop i ss) ≡ 1 + unused (drop (i + 1) ss)
 unused-here ss i within used = at-drop-more unused ss i [] within ∙ rw used
-
--- a slot that holds a name is used
-pub holds-used : (slot name : List ℕ) → holds slot name ≡ true → is-used slot ≡ true
-holds-used slot name = by-use (is-used slot) (sameBytes (slot-name slot) name) where
-  by-use : (used same : Bool) → (used && same) ≡ true → used ≡ true
-  by-use true same is = refl
-  by-use false same is = is
 
 -- where no slot is used, nothing is held
 pub held-none : (ss : List (List ℕ)) (name : List ℕ) → ((k : ℕ) → k < length ss → is-used (getD ss k []) ≡ false) → held-in ss name ≡ None

@@ -1,4 +1,4 @@
--- Slots are a lawful store.
+-- Slots are a lawful store. The ghost member `lawful` cites this proof, and so it stands here and not among the proofs.
 --
 --   whole-chunks    every slot of memory is whole
 --   slots-lawful    whole slots hold blocks within the limit under names of 32 bytes

@@ -24,7 +24,7 @@ use Rattle.slots.specs.Slot.{slot-size, slot-name, slot-block, is-used}
 abbrev pub slots-in : List ℕ → List (List ℕ)
 slots-in memory = chunked slot-size (length memory / slot-size) memory
 
--- it belongs to no slot
+-- bytes that belong to no slot
 abbrev pub left-over : List ℕ → List ℕ
 left-over memory = drop (length memory / slot-size * slot-size) memory
 

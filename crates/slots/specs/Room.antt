@@ -15,7 +15,7 @@ use Rattle.slots.specs.Slot.{slot-size}
 use Rattle.slots.specs.declared.fault.MemoryFault.{MemoryFault}
 use Rattle.slots.specs.declared.fault.MemoryFault.the-variants.{NoSlot}
 
--- the only one
+-- there is one fault
 abbrev pub memory-number : MemoryFault → ℕ
 memory-number NoSlot = 14
 

@@ -47,7 +47,7 @@ pub(crate) fn count_unused(memory: &[u8]) -> usize
     count
 }
 
-// An unused slot, by its place among all.
+// The place of an unused slot. It is the first, but nothing above rests on that.
 fn find_unused(memory: &[u8]) -> Option<usize>
     ensures { λ r. ⌜ BySome r (unused (slots-in (now (memory .entry))) ≡ 0) (λ i. (i < length (now (memory .entry)) / 10788) × (is-used (getD (slots-in (now (memory .entry))) i []) ≡ false)) ⌝ }
 {

@@ -5,6 +5,7 @@ ghost use lib.ListN.{length};
 ghost use denote.Ref.{now as behind};
 ghost use Rattle.store.specs.Answer.{told};
 ghost use Rattle.store.specs.Calls.{put-answer, put-after};
+ghost use Rattle.store.specs.Meaning.{Unused};
 ghost use Rattle.slots.specs.Lawful.{slots-lawful};
 ghost use Rattle.slots.specs.Memory.{left-over, slots-meaning, without-pairs};
 ghost use Rattle.slots.specs.Room.{memory-told, memory-answer};
@@ -40,6 +41,7 @@ impl<'a> Slots<'a> {
     // The store over this memory, with every slot unused. What is left behind the last whole slot stays as it is.
     pub fn new(memory: &'a mut [u8]) -> Slots<'a>
         ensures after { λ r. ⌜ slots-meaning (now (r .memory)) ≡ without-pairs (length (now (memory .entry)) / 10788) ⌝ }
+        ensures unused { λ r. ⌜ Unused (slots-meaning (now (r .memory))) ⌝ }
         ensures rest { λ r. ⌜ left-over (now (r .memory)) ≡ left-over (now (memory .entry)) ⌝ }
     {
         empty_all(memory);

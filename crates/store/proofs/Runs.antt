@@ -12,8 +12,8 @@ use Rattle.std.specs.shelf.Text.{sameBytes}
 use Rattle.std.proofs.shelf.Equals.{sameBytes-decides}
 use Rattle.std.proofs.shelf.Tests.{ltb-false}
 use Rattle.store.specs.Calls.{Outcome, too-long, held-already, conflict, no-room, added, compared, settled, outcome, left-by, put-after, with-block, with-pair}
-use Rattle.store.specs.Meaning.{Meaning, block-limit}
-use Rattle.store.specs.Runs.{Call, finding, comparing, putting, asking-free, asking-cost, Step, Run, Pair, Grown}
+use Rattle.store.specs.Meaning.{Meaning, Lawful, block-limit}
+use Rattle.store.specs.Runs.{Call, finding, comparing, putting, asking-free, asking-cost, Step, Run, Pair, spent, Grown, All-spent}
 use Rattle.store.specs.declared.compared.Compared.{Compared}
 use Rattle.store.specs.declared.compared.Compared.the-variants.{Absent, Same, Other}
 
@@ -84,8 +84,21 @@ grown-step m new k n (putting name block answer) g s =
 grown-step m new k n (asking-free answer) g s = as-it-was m new k n g (s .1)
 grown-step m new k n (asking-cost len answer) g s = as-it-was m new k n g (s .1)
 
-pub grown-run : (calls : List Call) (m n : Meaning) → Run calls m n → (new : List Pair) × Grown m new n
+grown-run : (calls : List Call) (m n : Meaning) → Run calls m n → (new : List Pair) × Grown m new n
 grown-run [] m n run = as-it-was m [] m n (grown-none m) run
 grown-run (call ∷ calls) m n run =
     let before = grown-run calls m (run .0) (run .1) in
     grown-step m (before .0) (run .0) n call (before .1) (run .2)
+
+-- each pair costs a unit at least
+least : (cost : ℕ → ℕ) → ((len : ℕ) → 1 ≤ cost len) → (ps : List Pair) → length ps ≤ spent cost ps
+least cost some [] = omega arith
+least cost some (p ∷ ps) = omega (arith, some (length (p .block)), least cost some ps)
+
+pub all-spent : (n : Meaning) → Lawful n → All-spent n
+all-spent n lawful calls m run =
+    let e = grown-run calls m n run in
+    let same = e .1 .costs in
+    let some : (len : ℕ) → 1 ≤ m .cost len = λ len. subst (λ (f : ℕ → ℕ). 1 ≤ f len) same (lawful .cost-least len) in
+    let cost : spent (m .cost) (e .0) ≡ m .free - n .free = omega (arith, e .1 .units) in
+    record { new = e .0; grown = e .1; cost = cost; least = omega (arith, least (m .cost) some (e .0)) }

@@ -33,7 +33,7 @@ abbrev pub told : {X : Type 0} → Result X Fault → Answer X
 told (Ok x) = done x
 told (Err fault) = refused (number fault)
 
--- beside the bytes that the buffer has
+-- of a result, and of how many bytes the buffer has
 abbrev pub Within : Result (Option ℕ) Fault → ℕ → Type 0
 Within (Ok (Some len)) room = (len ≤ block-limit) × (block-limit ≤ room)
 Within (Ok None) room = block-limit ≤ room

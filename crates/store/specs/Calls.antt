@@ -82,7 +82,7 @@ answer-of conflict = refused (number Conflict)
 answer-of no-room = refused (number NoRoom)
 answer-of added = done tt
 
--- to a name and a block
+-- the answer where a name and a block are put
 abbrev pub put-answer : Meaning → List ℕ → List ℕ → Answer (Unit {0})
 put-answer m name block = answer-of (outcome m name block)
 
@@ -106,6 +106,6 @@ left-by conflict m name block = m
 left-by no-room m name block = m
 left-by added m name block = with-pair m name block
 
--- after a name and a block were put
+-- the store once a name and a block were put
 abbrev pub put-after : Meaning → List ℕ → List ℕ → Meaning
 put-after m name block = left-by (outcome m name block) m name block

@@ -4,7 +4,7 @@
 --   draft-of       a front store, and behind it a back store
 --   draft-lawful   a draft of lawful stores is lawful
 --
--- Assumes nothing.
+-- The last is a proof; it stands here since the ghost member `lawful` cites it. Assumes nothing.
 use mathlib.Core.Path.{_≡_}
 use mathlib.Core.List.{List}
 use Prim.Native.Nat.{ℕ, _≤_}

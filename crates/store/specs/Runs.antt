@@ -8,11 +8,13 @@
 --   with-all    more pairs
 --   Fresh       pairs whose names were not held, and are all different
 --   Grown       a store became another by more pairs, at their cost, and by nothing else
+--   Spent       so it did, and each pair cost a unit at least
+--   All-spent   whatever calls led to a store
 --
 -- Assumes nothing.
 use mathlib.Core.Path.{_≡_}
 use mathlib.Core.List.{List, [], _∷_}
-use Prim.Native.Nat.{ℕ, _+_}
+use Prim.Native.Nat.{ℕ, _+_, _-_, _≤_}
 use lib.ListN.{length}
 use Rattle.std.specs.declared.option.Option.{Option}
 use Rattle.std.specs.declared.option.Option.the-variants.{Some, None}
@@ -77,3 +79,15 @@ pub record Grown (m : Meaning) (new : List Pair) (n : Meaning) : Type 0 where
   pub units : n .free + spent (m .cost) new ≡ m .free
   -- costs never change
   pub costs : n .cost ≡ m .cost
+
+pub record Spent (m n : Meaning) : Type 0 where
+  -- what the calls added
+  pub new : List Pair
+  pub grown : Grown m new n
+  -- what is no longer free was spent on it
+  pub cost : spent (m .cost) new ≡ m .free - n .free
+  pub least : length new ≤ m .free - n .free
+
+-- from any store on
+abbrev pub All-spent : Meaning → Type 0
+All-spent n = (calls : List Call) (m : Meaning) → Run calls m n → Spent m n

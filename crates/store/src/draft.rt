@@ -1,7 +1,7 @@
 // A store in front of another: what is put goes to the front, and the back never changes.
 ghost use mathlib.Core.Path.{_≡_};
 ghost use Rattle.store.specs.Answer.{told};
-ghost use Rattle.store.specs.Calls.{put-answer, put-after};
+ghost use Rattle.store.specs.Calls.{left-by, outcome, put-answer, put-after};
 ghost use Rattle.store.specs.Drafts.{draft-of, draft-lawful};
 use crate::compared::Compared;
 use crate::fault::Fault;
@@ -37,6 +37,7 @@ pub impl<F: Store, B: Store> Store for Draft<F, B> as DraftStore {
     fn put(&mut self, name: &Digest, block: &[u8]) -> Result<(), Fault>
         ensures answer { λ r. ⌜ told r ≡ put-answer (draft-of (F·Store .meaning (now (self .entry) .front)) (B·Store .meaning (now (self .entry) .back))) (now (name .entry) .bytes) (now (block .entry)) ⌝ }
         ensures after { λ _. ⌜ draft-of (F·Store .meaning (now (self .exit) .front)) (B·Store .meaning (now (self .exit) .back)) ≡ put-after (draft-of (F·Store .meaning (now (self .entry) .front)) (B·Store .meaning (now (self .entry) .back))) (now (name .entry) .bytes) (now (block .entry)) ⌝ }
+        ensures front { λ _. ⌜ F·Store .meaning (now (self .exit) .front) ≡ left-by (outcome (draft-of (F·Store .meaning (now (self .entry) .front)) (B·Store .meaning (now (self .entry) .back))) (now (name .entry) .bytes) (now (block .entry))) (F·Store .meaning (now (self .entry) .front)) (now (name .entry) .bytes) (now (block .entry)) ⌝ }
         ensures back { λ _. ⌜ now (self .exit) .back ≡ now (self .entry) .back ⌝ }
     {
         if block.len() > BLOCK_LIMIT {
