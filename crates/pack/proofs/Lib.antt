@@ -1,0 +1,10 @@
+pub mod Sectors
+pub mod Names
+pub mod Readings
+pub mod Reaches
+pub mod Bads
+pub mod Walks
+pub mod Pieces
+pub mod Named
+pub mod Scans
+pub mod Judges
