@@ -14,6 +14,7 @@ use Rattle.std.proofs.shelf.Elements.{all-drop, all-take}
 use Rattle.std.proofs.shelf.Tests.{and-from, and-parts, eq-eqb, eqb-true, lt-ltb, ltb-true}
 use Rattle.store.specs.Runs.{Pair}
 use Rattle.pack.specs.FirstBad.{First-bad}
+use Rattle.pack.specs.Lawful.{whole-sectors}
 use Rattle.pack.specs.Memory.{Sectored, sectored}
 use Rattle.pack.specs.Pack.{Good, sectors-in}
 use Rattle.pack.specs.Reader.{Reading, good, bad, read-sectors}
@@ -22,7 +23,6 @@ use Rattle.pack.specs.Test.{Judged, Verdict, accepted, refused, refused-at, fa
 use Rattle.pack.specs.declared.fault.MemoryFault.{MemoryFault}
 use Rattle.pack.specs.declared.fault.MemoryFault.the-variants.{NoSectors, BadSector}
 use Rattle.pack.proofs.Bads.{Bytes, first-bad, read-good}
-use Rattle.pack.proofs.Scans.{whole-sectors}
 
 bytes-chunks : (k : ℕ) (m : List ℕ) → Bytes m → All Bytes (chunked 512 k m)
 bytes-chunks zero m small = tt

@@ -8,3 +8,9 @@ pub mod Pieces
 pub mod Named
 pub mod Scans
 pub mod Judges
+pub mod Founds
+pub mod Stores
+pub mod Blocks
+pub mod Cuts
+pub mod Makes
+pub mod Writes

@@ -172,16 +172,6 @@ ended-bad ss at pairs n within used =
 pub ended-all : (ss : List (List ℕ)) (at : ℕ) (pairs : List Pair) (n : ℕ) → length ss ≤ at → read-from (ended pairs n) at (drop at ss) ≡ good pairs n
 ended-all ss at pairs n past = at-drop-all (read-from (ended pairs n) at) ss at past
 
-pub whole-chunks : (k : ℕ) (m : List ℕ) → k * 512 ≤ length m → All Whole (chunked 512 k m)
-whole-chunks zero m room = tt
-whole-chunks (suc k) m room = (
-  length-take-le 512 m (omega (arith, suc-mul k 512)),
-  whole-chunks k (drop 512 m) (omega (arith, suc-mul k 512, length-drop 512 m)),
-)
-
-pub whole-sectors : (m : List ℕ) → All Whole (sectors-in m)
-whole-sectors m = whole-chunks (length m / 512) m (omega arith)
-
 -- the answers of the scan, over the sectors of memory
 pub told-bad : (ss : List (List ℕ)) (m : List ℕ) (at : ℕ) → ss ≡ sectors-in m → read-sectors ss ≡ bad at → Err at ≡ scanned (read-sectors (sectors-in m))
 told-bad ss m at is found = sym (ap (λ xs. scanned (read-sectors xs)) (sym is) ∙ ap scanned found)

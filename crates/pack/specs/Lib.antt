@@ -5,3 +5,6 @@ pub mod FirstBad
 pub mod Scan
 pub mod Memory
 pub mod Test
+pub mod Block
+pub mod Lawful
+pub mod Put

@@ -6,7 +6,7 @@ use Rattle.pack.specs.Test.{Judged, accepted, fault-told, verdict}
 use Rattle.pack.proofs.Judges.{as-verdict, judge, test-tells}
 use Rattle.pack.proofs.Readings.{read-pack}
 use Rattle.pack.proofs.Bads.{Bytes}
-use Rattle.pack.proofs.test.test_memory.Needs as need
+use Rattle.pack.proofs.pack.Pack.test_memory.Needs as need
 
 pub returns-in-Ok : need.returns-in-Ok
 returns-in-Ok c =
