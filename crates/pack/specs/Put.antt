@@ -2,8 +2,10 @@
 --
 --   sectors-left    the sectors after a put, by what it came to
 --   put-sectors     the sectors after a put
+--   Kept            where a put adds no pair, every byte of memory stays
 --
 -- Assumes nothing.
+use mathlib.Core.Path.{_≡_}
 use mathlib.Core.List.{List, _++_}
 use Prim.Native.Nat.{ℕ, _+_}
 use lib.ListN.{length, take, drop}
@@ -23,3 +25,11 @@ sectors-left added memory name block =
 
 abbrev pub put-sectors : List ℕ → List ℕ → List ℕ → List (List ℕ)
 put-sectors memory name block = sectors-left (outcome (pack-meaning memory) name block) memory name block
+
+-- from this memory to that
+abbrev pub Kept : Outcome → List ℕ → List ℕ → Type 0
+Kept too-long memory after = after ≡ memory
+Kept held-already memory after = after ≡ memory
+Kept conflict memory after = after ≡ memory
+Kept no-room memory after = after ≡ memory
+Kept added memory after = Unit {0}

@@ -2,11 +2,11 @@
 ghost use mathlib.Core.Path.{_≡_};
 ghost use denote.Ref.{now as behind};
 ghost use Rattle.store.specs.Answer.{told};
-ghost use Rattle.store.specs.Calls.{put-answer, put-after};
+ghost use Rattle.store.specs.Calls.{outcome, put-answer, put-after};
 ghost use Rattle.pack.specs.Lawful.{pack-lawful};
 ghost use Rattle.pack.specs.Memory.{pack-meaning};
 ghost use Rattle.pack.specs.Pack.{sectors-in};
-ghost use Rattle.pack.specs.Put.{put-sectors};
+ghost use Rattle.pack.specs.Put.{Kept, put-sectors};
 use super::Pack;
 use crate::read::copy_block;
 use crate::read::is_block;
@@ -49,6 +49,7 @@ pub impl Store for Pack<'_> as PackStore {
         ensures answer { λ r. ⌜ told r ≡ put-answer (pack-meaning (now (now (self .entry) .room .memory))) (now (name .entry) .bytes) (now (block .entry)) ⌝ }
         ensures after { λ _. ⌜ pack-meaning (now (now (self .exit) .room .memory)) ≡ put-after (pack-meaning (now (now (self .entry) .room .memory))) (now (name .entry) .bytes) (now (block .entry)) ⌝ }
         ensures sectors { λ _. ⌜ sectors-in (now (now (self .exit) .room .memory)) ≡ put-sectors (now (now (self .entry) .room .memory)) (now (name .entry) .bytes) (now (block .entry)) ⌝ }
+        ensures kept { λ _. ⌜ Kept (outcome (pack-meaning (now (now (self .entry) .room .memory))) (now (name .entry) .bytes) (now (block .entry))) (now (now (self .entry) .room .memory)) (now (now (self .exit) .room .memory)) ⌝ }
     {
         if block.len() > BLOCK_LIMIT {
             return Err(Fault::BlockTooLong);

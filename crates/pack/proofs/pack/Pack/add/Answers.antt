@@ -1,5 +1,5 @@
 -- The block takes the first unused sectors.
-use mathlib.Core.Path.{_≡_, sym, ap, _∙_}
+use mathlib.Core.Path.{_≡_, sym, ap, subst, _∙_}
 use mathlib.Core.List.{_++_}
 use Prim.Native.Nat.{_+_, _≤_}
 use native.Mathlib.Omega.{arith}
@@ -8,7 +8,7 @@ use Rattle.store.specs.Calls.{answer-of, left-by}
 use Rattle.store.proofs.Outcomes.{outcome-added}
 use Rattle.pack.specs.Memory.{free-in, free-read, pack-meaning}
 use Rattle.pack.specs.Pack.{block-sectors, sector-cost, sectors-in}
-use Rattle.pack.specs.Put.{sectors-left}
+use Rattle.pack.specs.Put.{Kept, sectors-left}
 use Rattle.pack.proofs.Cuts.{sector-count}
 use Rattle.pack.proofs.Stores.{added-read, known, meaning-written, used-written}
 use Rattle.pack.proofs.pack.Pack.add.Needs as need
@@ -53,4 +53,5 @@ returns c =
           w .after
           ∙ ap (λ k. take k (sectors-in m) ++ (block-sectors name block ++ drop (k + sector-cost (length block)) (sectors-in m))) (s .filled)
           ∙ sym (ap (λ k. sectors-left k m name block) o);
+      kept = subst (λ k. Kept k m n) (sym o) tt;
     }
