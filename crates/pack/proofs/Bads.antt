@@ -2,7 +2,7 @@
 use mathlib.Core.Path.{_≡_, refl, sym, ap, subst, _∙_}
 use mathlib.Core.Bool.{Bool, true, false, cond}
 use mathlib.Core.List.{List, [], _∷_, _++_}
-use Prim.Native.Nat.{ℕ, zero, suc, _+_, _-_, _*_, _/_, _%_, _<_, _≤_}
+use Prim.Native.Nat.{ℕ, zero, suc, _+_, _-_, _<_, _≤_}
 use native.Mathlib.Omega.{arith}
 use lib.Dec.{eqb}
 use lib.ListN.{length, take, drop, replicate}
@@ -10,17 +10,15 @@ use Rattle.std.specs.declared.option.Option.{Option}
 use Rattle.std.specs.declared.option.Option.the-variants.{Some, None}
 use Rattle.std.specs.shelf.Lists.{All}
 use Rattle.std.specs.shelf.Text.{sameBytes}
-use Rattle.std.proofs.shelf.Elements.{all-append, all-take, all-drop, all-push}
-use Rattle.std.proofs.shelf.Lists.{append-assoc, append-nil, length-append, length-replicate, length-take-le, replicate-append-replicate, take-append-drop, take-at, take-all}
+use Rattle.std.proofs.shelf.Elements.{all-append, all-take, all-drop}
+use Rattle.std.proofs.shelf.Lists.{append-assoc, append-nil, length-append, length-replicate, length-take-le, replicate-append-replicate, take-at}
 use Rattle.store.specs.Runs.{Pair}
 use Rattle.pack.specs.FirstBad.{Agrees, First-bad}
 use Rattle.pack.specs.Sector.{body, four-bytes, head, last, name-of, count-of, payload-of, sector, unused-sector, weighed, zeros}
 use Rattle.pack.specs.Pack.{Good, Sound, blocks, named, pack-sectors}
-use Rattle.pack.specs.Reader.{State, between, inside, ended, Reading, good, bad, ends, fewest, goes-on, part-step, read-end, read-from, read-next, read-sectors, step}
-use Rattle.pack.proofs.Names.{sound-push}
+use Rattle.pack.specs.Reader.{State, between, inside, ended, good, bad, ends, fewest, goes-on, part-step, read-from, read-next, read-sectors, step}
 use Rattle.pack.proofs.Reaches.{In, Reached, closes, reached-start, step-reached}
 use Rattle.pack.proofs.Readings.{read-pack}
-use Rattle.pack.proofs.Sectors.{length-zeros}
 
 abbrev pub Bytes : List ℕ → Type 0
 Bytes s = All (λ b. b < 256) s

@@ -1,5 +1,5 @@
 -- Walks over the parts of a block. Assumes nothing.
-use mathlib.Core.Path.{_≡_, refl, sym, ap, subst, _∙_}
+use mathlib.Core.Path.{_≡_, refl, sym, ap, _∙_}
 use mathlib.Core.Bool.{Bool, true, false, cond, _&&_}
 use mathlib.Core.List.{List, [], _∷_, _++_}
 use Prim.Native.Nat.{ℕ, _+_, _-_, _<_, _≤_}
@@ -8,8 +8,7 @@ use lib.Dec.{eqb}
 use lib.ListN.{length, getD, take, drop}
 use borrow.Rule.Slice.PartMut.{putMid}
 use Rattle.std.specs.shelf.Text.{sameBytes}
-use Rattle.std.proofs.shelf.Equals.{sameBytes-decides}
-use Rattle.std.proofs.shelf.Lists.{append-assoc, append-nil, at-drop-all, at-drop-more, drop-all, drop-at, drop-drop, drop-take, length-append, length-drop, length-take-le, take-all, take-append-drop, take-at, take-take}
+use Rattle.std.proofs.shelf.Lists.{append-assoc, at-drop-all, at-drop-more, drop-all, drop-at, drop-drop, drop-take, length-append, length-drop, length-take-le, take-all, take-append-drop, take-at, take-take}
 use Rattle.std.proofs.shelf.Tests.{eq-eqb, eqb-false, eqb-true, ne-eqb}
 use Rattle.pack.specs.Block.{block-from, part-bytes}
 use Rattle.pack.proofs.Sectors.{same-no}

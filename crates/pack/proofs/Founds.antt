@@ -1,30 +1,26 @@
 -- A block is found where the first sector of its name stands. Assumes nothing.
-use mathlib.Core.Path.{_≡_, refl, sym, ap, subst, _∙_}
-use mathlib.Core.Bool.{Bool, true, false, cond, _||_}
+use mathlib.Core.Path.{_≡_, refl, sym, ap, _∙_}
+use mathlib.Core.Bool.{Bool, true, false, cond}
 use mathlib.Core.List.{List, [], _∷_, _++_}
 use mathlib.Core.Logic.{⊎-elim}
-use Prim.Native.Nat.{ℕ, zero, suc, _+_, _-_, _*_, _<_, _≤_, min}
+use Prim.Native.Nat.{ℕ, zero, suc, _+_, _-_, _<_, _≤_, min}
 use native.Mathlib.Omega.{arith}
 use lib.Dec.{eqb}
-use lib.ListN.{length, getD, take, drop, replicate}
-use Rattle.std.specs.declared.option.Option.{Option}
+use lib.ListN.{length, getD, take, drop}
 use Rattle.std.specs.declared.option.Option.the-variants.{Some, None}
 use Rattle.std.specs.shelf.Lists.{All}
 use Rattle.std.specs.shelf.Text.{sameBytes}
 use Rattle.std.proofs.shelf.Equals.{sameBytes-decides}
-use Rattle.std.proofs.shelf.Lists.{append-assoc, append-nil, drop-append-le, drop-at, getD-append-left, getD-append-right, length-append, length-drop, length-replicate, length-take-le, take-append-drop, take-append-le, take-at}
+use Rattle.std.proofs.shelf.Lists.{append-nil, getD-append-left, getD-append-right, length-append, length-drop, length-take-le, take-append-drop}
 use Rattle.std.proofs.shelf.Tests.{cases-lt, eq-eqb, ne-eqb, or-parts}
 use Rattle.store.specs.Runs.{Pair}
-use Rattle.pack.specs.Block.{Stands, block-from, part-bytes}
-use Rattle.pack.specs.Lawful.{whole-sectors}
-use Rattle.pack.specs.Memory.{held-among, pairs-read, reading, sectored, used-in, free-in}
-use Rattle.pack.specs.Pack.{Fits, Sound, block-sectors, blocks, full-parts, named, pack-sectors, parts, sectors-in}
-use Rattle.pack.specs.Reader.{Reading, good, bad, read-sectors}
+use Rattle.pack.specs.Block.{block-from, part-bytes}
+use Rattle.pack.specs.Memory.{held-among}
+use Rattle.pack.specs.Pack.{Fits, block-sectors, blocks, full-parts, named, parts}
 use Rattle.pack.specs.Scan.{First-named, any-named}
-use Rattle.pack.specs.Sector.{count-of, last, more-follows, name-of, payload-of, sector, unused-sector}
-use Rattle.pack.proofs.Bads.{read-good}
-use Rattle.pack.proofs.Named.{any-append, any-blocks, any-parts}
-use Rattle.pack.proofs.Readings.{Cut, at-least, block-cut, length-parts}
+use Rattle.pack.specs.Sector.{count-of, last, more-follows, name-of, payload-of, sector}
+use Rattle.pack.proofs.Named.{any-append}
+use Rattle.pack.proofs.Readings.{Cut, at-least}
 use Rattle.pack.proofs.Sectors.{sector-count, sector-kind, sector-name, sector-payload}
 
 part-of : (kind part : ℕ) (name payload : List ℕ) → length name ≡ 32 → length payload ≤ 468 → part-bytes (sector kind part name payload) ≡ payload

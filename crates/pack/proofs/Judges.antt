@@ -1,27 +1,25 @@
 -- The verdict on memory is right. Assumes nothing.
-use mathlib.Core.Path.{_≡_, refl, sym, ap, subst, _∙_}
-use mathlib.Core.Bool.{Bool, true, false, cond, _&&_}
-use mathlib.Core.List.{List, [], _∷_}
+use mathlib.Core.Path.{_≡_, refl}
+use mathlib.Core.Bool.{Bool, true, false, cond}
+use mathlib.Core.List.{List}
 use Prim.Native.Nat.{ℕ, zero, suc, _/_, _%_, _<_}
 use native.Mathlib.Omega.{arith}
 use lib.Dec.{eqb, ltb}
-use lib.ListN.{length, take, drop}
+use lib.ListN.{length, drop}
 use Rattle.std.specs.Vectors.{chunked}
 use Rattle.std.specs.declared.result.Result.{Result}
 use Rattle.std.specs.declared.result.Result.the-variants.{Ok, Err}
 use Rattle.std.specs.shelf.Lists.{All}
 use Rattle.std.proofs.shelf.Elements.{all-drop, all-take}
 use Rattle.std.proofs.shelf.Tests.{and-from, and-parts, eq-eqb, eqb-true, lt-ltb, ltb-true}
-use Rattle.store.specs.Runs.{Pair}
-use Rattle.pack.specs.FirstBad.{First-bad}
 use Rattle.pack.specs.Lawful.{whole-sectors}
 use Rattle.pack.specs.Memory.{Sectored, sectored}
-use Rattle.pack.specs.Pack.{Good, sectors-in}
+use Rattle.pack.specs.Pack.{sectors-in}
 use Rattle.pack.specs.Reader.{Reading, good, bad, read-sectors}
 use Rattle.pack.specs.Scan.{scanned}
-use Rattle.pack.specs.Test.{Judged, Verdict, accepted, refused, refused-at, fault-told, memory-told, read-verdict, scan-told, tested, verdict}
+use Rattle.pack.specs.Test.{Judged, Verdict, accepted, refused, fault-told, read-verdict, scan-told, tested, verdict}
 use Rattle.pack.specs.declared.fault.MemoryFault.{MemoryFault}
-use Rattle.pack.specs.declared.fault.MemoryFault.the-variants.{NoSectors, BadSector}
+use Rattle.pack.specs.declared.fault.MemoryFault.the-variants.{NoSectors}
 use Rattle.pack.proofs.Bads.{Bytes, first-bad, read-good}
 
 bytes-chunks : (k : ℕ) (m : List ℕ) → Bytes m → All Bytes (chunked 512 k m)

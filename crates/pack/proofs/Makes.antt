@@ -1,11 +1,11 @@
 -- The bytes of a sector, written one part after the other. Assumes nothing.
-use mathlib.Core.Path.{_≡_, refl, sym, ap, subst, _∙_}
-use mathlib.Core.List.{List, [], _∷_, _++_}
+use mathlib.Core.Path.{_≡_, refl, sym, ap, _∙_}
+use mathlib.Core.List.{List, [], _++_}
 use Prim.Native.Nat.{ℕ, _+_, _-_, _≤_}
 use native.Mathlib.Omega.{arith}
-use lib.ListN.{length, take, drop, replicate}
+use lib.ListN.{length, take, drop}
 use borrow.Rule.Slice.PartMut.{putMid}
-use Rattle.std.proofs.shelf.Lists.{append-assoc, append-nil, drop-all, drop-at, drop-drop, drop-replicate, length-append, length-replicate, take-all, take-append-le, take-at, replicate-append-replicate}
+use Rattle.std.proofs.shelf.Lists.{append-assoc, append-nil, drop-at, drop-drop, drop-replicate, length-append, take-at, replicate-append-replicate}
 use Rattle.pack.specs.Sector.{body, four-bytes, head, sector, weighed, zeros}
 use Rattle.pack.proofs.Sectors.{length-body}
 

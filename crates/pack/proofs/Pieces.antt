@@ -1,16 +1,16 @@
 -- A sector is that of a part where its pieces are. Assumes nothing.
-use mathlib.Core.Path.{_≡_, refl, sym, ap, subst, _∙_}
+use mathlib.Core.Path.{_≡_, refl, sym, ap, _∙_}
 use mathlib.Core.Bool.{Bool, true, false}
-use mathlib.Core.List.{List, [], _∷_, _++_}
+use mathlib.Core.List.{List, _++_}
 use Prim.Native.Nat.{ℕ, _+_, _-_, _≤_}
 use native.Mathlib.Omega.{arith}
 use lib.ListN.{length, take, drop}
 use Rattle.std.specs.Orderings.{Decides}
 use Rattle.std.specs.shelf.Text.{sameBytes}
 use Rattle.std.proofs.shelf.Equals.{sameBytes-decides}
-use Rattle.std.proofs.shelf.Lists.{append-assoc, drop-at, drop-drop, drop-take, length-append, length-drop, length-take, length-take-le, take-all, take-append-drop, take-at, take-take}
+use Rattle.std.proofs.shelf.Lists.{append-assoc, drop-at, drop-drop, drop-take, length-append, length-drop, length-take-le, take-append-drop, take-at, take-take}
 use Rattle.pack.specs.Sector.{body, four-bytes, head, name-of, payload-of, sector, weighed, zeros}
-use Rattle.pack.proofs.Sectors.{length-body, same-no, same-refl}
+use Rattle.pack.proofs.Sectors.{length-body, same-no}
 
 -- the bytes behind the payload
 abbrev pub padding : ℕ → List ℕ → List ℕ

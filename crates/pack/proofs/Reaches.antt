@@ -2,24 +2,20 @@
 use mathlib.Core.Path.{_≡_, refl, sym, ap, subst, _∙_}
 use mathlib.Core.Bool.{Bool, true, false, cond}
 use mathlib.Core.List.{List, [], _∷_, _++_}
-use Prim.Native.Nat.{ℕ, zero, suc, _+_, _-_, _*_, _/_, _%_, _<_, _≤_}
+use Prim.Native.Nat.{ℕ, zero, suc, _+_, _-_, _*_, _/_, _<_, _≤_}
 use native.Mathlib.Omega.{arith}
 use lib.Dec.{eqb}
 use lib.ListN.{length, take, drop, replicate}
-use Rattle.std.specs.declared.option.Option.{Option}
 use Rattle.std.specs.declared.option.Option.the-variants.{Some, None}
-use Rattle.std.specs.shelf.Lists.{All}
 use Rattle.std.specs.shelf.Text.{sameBytes}
-use Rattle.std.proofs.shelf.Elements.{all-append, all-drop, all-take}
 use Rattle.std.proofs.shelf.Equals.{sameBytes-decides}
-use Rattle.std.proofs.shelf.Lists.{append-assoc, append-nil, drop-append-le, length-append, length-drop, length-replicate, length-take-le, replicate-more, replicate-append-replicate, take-all, take-append-le}
-use Rattle.std.proofs.shelf.Tests.{eqb-true, eqb-false, ne-eqb}
+use Rattle.std.proofs.shelf.Lists.{append-assoc, append-nil, drop-append-le, length-append, length-drop, length-take-le, replicate-more, take-all, take-append-le}
+use Rattle.std.proofs.shelf.Tests.{eqb-true, eqb-false}
 use Rattle.store.specs.Runs.{Pair}
-use Rattle.pack.specs.Sector.{body, four-bytes, head, last, more-follows, name-of, count-of, payload-of, sector, unused-sector, weighed, zeros}
-use Rattle.pack.specs.Pack.{Fits, Apart, Good, Sound, block-sectors, blocks, full-parts, named, pack-sectors, parts, sector-cost}
+use Rattle.pack.specs.Sector.{last, more-follows, name-of, count-of, payload-of, sector, unused-sector}
+use Rattle.pack.specs.Pack.{Sound, block-sectors, blocks, full-parts, named, pack-sectors, parts}
 use Rattle.pack.specs.Reader.{State, between, inside, ended, ends, fewest, goes-on, part-step, step}
 use Rattle.pack.proofs.Names.{sound-push}
-use Rattle.pack.proofs.Readings.{at-least}
 use Rattle.pack.proofs.Sectors.{Full, full, Last, ended-by}
 
 -- the full parts of a block, from this part number on

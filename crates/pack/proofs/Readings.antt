@@ -1,21 +1,20 @@
 -- A pack that was made of sound pairs is read as these pairs. Assumes nothing.
 use mathlib.Core.Path.{_≡_, refl, sym, ap, subst, _∙_}
-use mathlib.Core.Bool.{Bool, true, false, cond, _&&_, _||_}
+use mathlib.Core.Bool.{Bool, true, false, cond}
 use mathlib.Core.List.{List, [], _∷_, _++_}
 use Prim.Native.Nat.{ℕ, zero, suc, _+_, _-_, _*_, _/_, _<_, _≤_}
 use native.Mathlib.Omega.{arith}
-use lib.Dec.{eqb, leb, ltb}
-use lib.ListN.{length, getD, take, drop, replicate}
-use Rattle.std.specs.declared.option.Option.{Option}
-use Rattle.std.specs.declared.option.Option.the-variants.{Some, None}
+use lib.Dec.{eqb}
+use lib.ListN.{length, take, drop, replicate}
+use Rattle.std.specs.declared.option.Option.the-variants.{Some}
 use Rattle.std.specs.shelf.Lists.{All}
 use Rattle.std.specs.shelf.Text.{sameBytes}
-use Rattle.std.proofs.shelf.Lists.{append-assoc, append-nil, length-append, length-drop, length-take, length-take-le, take-append-drop}
-use Rattle.std.proofs.shelf.Tests.{or-parts, or-from, eq-eqb, ne-eqb, eqb-true, eqb-false, cases-eq}
+use Rattle.std.proofs.shelf.Lists.{append-assoc, append-nil, length-append, length-drop, length-take-le, take-append-drop}
+use Rattle.std.proofs.shelf.Tests.{ne-eqb, eqb-true, eqb-false}
 use Rattle.store.specs.Runs.{Pair}
 use Rattle.pack.specs.Sector.{sector, unused-sector, more-follows, last, name-of, count-of, payload-of}
 use Rattle.pack.specs.Pack.{Fits, Apart, Sound, block-sectors, blocks, full-parts, named, pack-sectors, parts, sector-cost}
-use Rattle.pack.specs.Reader.{State, between, inside, ended, Reading, good, bad, goes-on, ends, fewest, part-step, read-from, read-next, read-sectors, step}
+use Rattle.pack.specs.Reader.{State, between, inside, ended, good, fewest, part-step, read-from, read-next, read-sectors, step}
 use Rattle.pack.proofs.Names.{apart-before}
 use Rattle.pack.proofs.Sectors.{ends-yes, goes-on-no, goes-on-yes, same-refl, sector-count, sector-name, sector-payload, used-not-unused}
 

@@ -3,11 +3,9 @@ use mathlib.Core.Path.{_≡_, refl, sym, ap, subst, _∙_}
 use mathlib.Core.Bool.{Bool, true, false, cond}
 use mathlib.Core.Logic.{_⊎_, ⊎-elim}
 use mathlib.Core.List.{List, [], _∷_, _++_}
-use Prim.Native.Nat.{ℕ, zero, suc, _+_, _-_, _*_, _/_, _<_, _≤_}
-use native.Mathlib.Nat.{suc-mul}
+use Prim.Native.Nat.{ℕ, suc, _+_, _-_, _<_, _≤_}
 use native.Mathlib.Omega.{arith}
 use lib.ListN.{length, getD, take, drop}
-use Rattle.std.specs.Vectors.{chunked}
 use Rattle.std.specs.declared.option.Option.{Option}
 use Rattle.std.specs.declared.option.Option.the-variants.{Some, None}
 use Rattle.std.specs.declared.result.Result.the-variants.{Ok, Err}
@@ -15,7 +13,7 @@ use Rattle.std.specs.shelf.Lists.{All}
 use Rattle.std.specs.shelf.Text.{sameBytes}
 use Rattle.std.proofs.shelf.Elements.{all-getD}
 use Rattle.std.proofs.shelf.Equals.{sameBytes-decides}
-use Rattle.std.proofs.shelf.Lists.{at-drop-all, at-drop-more, drop-all, length-drop, length-take-le, take-more}
+use Rattle.std.proofs.shelf.Lists.{at-drop-all, at-drop-more, length-drop, length-take-le, take-more}
 use Rattle.store.specs.Runs.{Pair}
 use Rattle.pack.specs.Sector.{count-of, name-of, payload-of, unused-sector}
 use Rattle.pack.specs.Pack.{Sound, blocks, named, sectors-in}
@@ -23,8 +21,8 @@ use Rattle.pack.specs.Reader.{State, between, inside, ended, Reading, good, ba
 use Rattle.pack.specs.Scan.{any-named, ended-reading, scanned}
 use Rattle.pack.proofs.Bads.{Whole}
 use Rattle.pack.proofs.Named.{any-blocks}
-use Rattle.pack.proofs.Reaches.{In, Reached, reached-in, reached-more, reached-last, reached-start, length-name}
-use Rattle.pack.proofs.Sectors.{full, ended-by, same-refl}
+use Rattle.pack.proofs.Reaches.{In, reached-in, reached-more, reached-last, reached-start, length-name}
+use Rattle.pack.proofs.Sectors.{full, ended-by}
 
 -- a block may begin at a place
 pub record Between (ss : List (List ℕ)) (at : ℕ) : Type 0 where

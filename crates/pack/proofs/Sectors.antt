@@ -1,16 +1,16 @@
 -- What stands in the sector of a part. Assumes nothing.
-use mathlib.Core.Path.{_≡_, refl, sym, ap, subst, _∙_}
+use mathlib.Core.Path.{_≡_, refl, sym, ap, _∙_}
 use mathlib.Core.Bool.{Bool, true, false, cond, _&&_}
-use mathlib.Core.List.{List, [], _∷_, _++_}
-use Prim.Native.Nat.{ℕ, zero, suc, _+_, _-_, _*_, _<_, _≤_}
+use mathlib.Core.List.{List, _++_}
+use Prim.Native.Nat.{ℕ, _+_, _-_, _*_, _<_, _≤_}
 use native.Mathlib.Omega.{arith}
 use lib.Dec.{eqb, leb, ltb}
-use lib.ListN.{length, getD, take, drop, replicate}
+use lib.ListN.{length, getD, take, drop}
 use Rattle.std.specs.shelf.Text.{sameBytes}
 use Rattle.std.proofs.shelf.Equals.{sameBytes-decides}
 use Rattle.std.proofs.shelf.Lists.{append-assoc, drop-at, drop-drop, length-append, length-replicate, take-at}
 use Rattle.std.proofs.shelf.Tests.{and-from, and-parts, and-right, eqb-false, leb-true, le-leb, le-ltb, lt-leb, lt-ltb, ltb-true, ne-eqb}
-use Rattle.pack.specs.Sector.{zeros, weighed, four-bytes, head, body, sector, unused-sector, more-follows, last, name-of, count-of, payload-of}
+use Rattle.pack.specs.Sector.{zeros, weighed, four-bytes, body, sector, unused-sector, more-follows, last, name-of, count-of, payload-of}
 use Rattle.pack.specs.Reader.{fewest, goes-on, ends}
 
 pub length-zeros : (n : ℕ) → length (zeros n) ≡ n

@@ -2,26 +2,24 @@
 use mathlib.Core.Path.{_≡_, refl, sym, ap, subst, fun-ext, _∙_}
 use mathlib.Core.Bool.{Bool, true, false, cond, _&&_, _||_}
 use mathlib.Core.List.{List, [], _∷_, _++_}
-use Prim.Native.Nat.{ℕ, zero, suc, _+_, _-_, _*_, _/_, _%_, _<_, _≤_, min}
+use Prim.Native.Nat.{ℕ, _+_, _-_, _/_, _%_, _<_, _≤_}
 use native.Mathlib.Omega.{arith}
 use lib.Dec.{eqb, ltb}
-use lib.ListN.{length, getD, take, drop, replicate}
+use lib.ListN.{length, take, drop, replicate}
 use Rattle.std.specs.Options.{Cases}
 use Rattle.std.specs.declared.option.Option.{Option}
 use Rattle.std.specs.declared.option.Option.the-variants.{Some, None}
 use Rattle.std.specs.declared.result.Result.the-variants.{Ok, Err}
-use Rattle.std.specs.shelf.Lists.{All}
 use Rattle.std.specs.shelf.Text.{sameBytes}
 use Rattle.std.proofs.shelf.Equals.{sameBytes-decides}
-use Rattle.std.proofs.shelf.Lists.{append-assoc, drop-append-le, drop-at, drop-drop, drop-replicate, length-append, length-replicate, length-take, take-append-drop, take-at}
-use Rattle.std.proofs.shelf.Tests.{eqb-false, or-from, or-parts}
+use Rattle.std.proofs.shelf.Lists.{append-assoc, drop-append-le, drop-at, drop-drop, drop-replicate, length-append, length-replicate, take-append-drop, take-at}
+use Rattle.std.proofs.shelf.Tests.{or-from, or-parts}
 use Rattle.store.specs.Calls.{with-block, with-pair}
-use Rattle.store.specs.Meaning.{Meaning}
 use Rattle.store.specs.Runs.{Pair}
 use Rattle.pack.specs.Block.{Stands, block-from}
 use Rattle.pack.specs.Lawful.{cost-least, whole-sectors}
 use Rattle.pack.specs.Memory.{held-among, pack-meaning, pairs-read, reading, sectored, used-in, free-in, free-read}
-use Rattle.pack.specs.Pack.{Apart, Fits, Sound, block-sectors, blocks, full-parts, named, pack-sectors, sector-cost, sectors-in}
+use Rattle.pack.specs.Pack.{Sound, block-sectors, blocks, full-parts, named, pack-sectors, sector-cost, sectors-in}
 use Rattle.pack.specs.Reader.{Reading, good, bad, read-sectors}
 use Rattle.pack.specs.Scan.{First-named, any-named, scanned}
 use Rattle.pack.specs.Sector.{unused-sector}
@@ -30,7 +28,7 @@ use Rattle.pack.specs.declared.fault.MemoryFault.{MemoryFault}
 use Rattle.pack.specs.declared.fault.MemoryFault.the-variants.{NoSectors}
 use Rattle.pack.proofs.Bads.{read-good}
 use Rattle.pack.proofs.Cuts.{sector-count}
-use Rattle.pack.proofs.Founds.{Found, absent, block-parts, find-first}
+use Rattle.pack.proofs.Founds.{absent, block-parts, find-first}
 use Rattle.pack.proofs.Named.{any-blocks}
 use Rattle.pack.proofs.Names.{same-turned, sound-push}
 use Rattle.pack.proofs.Reaches.{blocks-push}

@@ -1,15 +1,15 @@
 -- The sectors of a block, written one after the other. Assumes nothing.
-use mathlib.Core.Path.{_≡_, refl, sym, ap, subst, _∙_}
+use mathlib.Core.Path.{_≡_, refl, sym, ap, _∙_}
 use mathlib.Core.List.{List, [], _∷_, _++_}
 use Prim.Native.Nat.{ℕ, zero, suc, _+_, _-_, _*_, _<_, _≤_}
 use native.Mathlib.Omega.{arith}
 use lib.ListN.{length, getD, take, drop, set}
 use Rattle.std.proofs.shelf.Lists.{append-assoc, drop-more, drop-take, length-append, length-drop, length-take-le, set-at, take-append-drop, take-take}
 use Rattle.pack.specs.Lawful.{cost-least}
-use Rattle.pack.specs.Pack.{block-sectors, full-parts, parts, sector-cost}
+use Rattle.pack.specs.Pack.{block-sectors, parts, sector-cost}
 use Rattle.pack.specs.Sector.{last, more-follows, sector}
 use Rattle.pack.proofs.Reaches.{fulls, fulls-last, fulls-push}
-use Rattle.pack.proofs.Readings.{Cut, block-cut}
+use Rattle.pack.proofs.Readings.{block-cut}
 
 -- so many full parts are written behind a place
 abbrev pub so-far : List (List ℕ) → ℕ → List ℕ → List ℕ → ℕ → List (List ℕ)

@@ -27,7 +27,7 @@ use Rattle.store.specs.Meaning.{Lawful}
 use Rattle.store.specs.Runs.{Pair}
 use Rattle.pack.specs.Memory.{held-among, pack-meaning, pairs-read, reading, sectored}
 use Rattle.pack.specs.Pack.{Fits, named, sector-cost, sectors-in}
-use Rattle.pack.specs.Reader.{State, between, inside, ended, Reading, good, bad, ends, fewest, goes-on, part-step, read-end, read-from, read-next, read-sectors, step}
+use Rattle.pack.specs.Reader.{State, between, inside, ended, bad, ends, fewest, goes-on, part-step, read-from, read-next, read-sectors, step}
 use Rattle.pack.specs.Sector.{count-of, last, name-of, payload-of, sector, unused-sector}
 
 pub whole-chunks : (k : ℕ) (m : List ℕ) → k * 512 ≤ length m → All (λ s. length s ≡ 512) (chunked 512 k m)

@@ -1,11 +1,10 @@
 -- Part after part is copied.
-use mathlib.Core.Path.{_≡_, refl, sym, ap, subst, _∙_}
-use mathlib.Core.List.{List, [], _++_}
+use mathlib.Core.Path.{_≡_, refl, sym, ap, _∙_}
+use mathlib.Core.List.{[], _++_}
 use Prim.Native.Nat.{_+_, _≤_}
 use native.Mathlib.Omega.{arith}
 use borrow.Author.Needs.{needs}
-use lib.ListN.{length, drop, take}
-use Rattle.std.proofs.shelf.Lists.{append-nil}
+use lib.ListN.{length, drop}
 use Rattle.pack.specs.Block.{block-from}
 use Rattle.pack.proofs.Blocks.{after, block-here, block-last, block-more, block-none, copied, copied-all, next}
 use Rattle.pack.proofs.read.copy_block.Needs as need

@@ -1,7 +1,6 @@
 -- Part after part is compared.
-use mathlib.Core.Path.{_≡_, refl, sym, ap, subst, _∙_}
-use mathlib.Core.Bool.{true, false}
-use mathlib.Core.List.{List, [], _++_}
+use mathlib.Core.Path.{_≡_, sym, ap, _∙_}
+use mathlib.Core.List.{[], _++_}
 use Prim.Native.Nat.{_+_, _-_, _≤_}
 use native.Mathlib.Omega.{arith}
 use lib.ListN.{length, drop, take}
@@ -9,7 +8,7 @@ use Rattle.std.specs.shelf.Text.{sameBytes}
 use Rattle.std.proofs.shelf.Equals.{starts-is}
 use Rattle.std.proofs.shelf.Lists.{length-drop, take-rest}
 use Rattle.std.proofs.shelf.Tests.{both-ways}
-use Rattle.pack.specs.Block.{block-from, part-bytes}
+use Rattle.pack.specs.Block.{block-from}
 use Rattle.pack.proofs.Blocks.{after, block-here, block-last, block-more, block-none, same-more, same-not, same-none}
 use Rattle.pack.proofs.read.is_block.Needs as need
 

@@ -1,23 +1,22 @@
 -- The scan goes as the reader does.
 use mathlib.Core.Path.{_≡_, sym, ap, subst, _∙_}
 use mathlib.Core.Bool.{true, false}
-use mathlib.Core.List.{List, []}
+use mathlib.Core.List.{[]}
 use mathlib.Core.Logic.{_⊎_, inl, inr}
 use Prim.Native.Nat.{_+_, _-_, _<_}
 use native.Mathlib.Nat.{sub-zero}
 use native.Mathlib.Omega.{arith}
-use lib.ListN.{length, drop, getD, take}
+use lib.ListN.{length, getD, take}
 use Rattle.std.specs.declared.option.Option.the-variants.{Some, None}
 use Rattle.std.specs.shelf.Lists.{All}
 use Rattle.std.specs.shelf.Text.{sameBytes}
 use Rattle.pack.specs.Lawful.{whole-sectors}
-use Rattle.pack.specs.Pack.{sectors-in}
-use Rattle.pack.specs.Reader.{ended, goes-on, read-from, read-sectors}
-use Rattle.pack.specs.Scan.{any-named, ended-reading, scanned}
+use Rattle.pack.specs.Reader.{goes-on}
+use Rattle.pack.specs.Scan.{any-named}
 use Rattle.pack.specs.Sector.{name-of, unused-sector}
 use Rattle.pack.proofs.Bads.{Whole}
 use Rattle.pack.proofs.Named.{none-named, some-named}
-use Rattle.pack.proofs.Scans.{Between, Inside, bad-name, bad-part, bad-part-name, between-start, inside-last, inside-more, inside-start, scan-ends, scan-good, told-bad, told-good}
+use Rattle.pack.proofs.Scans.{bad-name, bad-part, bad-part-name, between-start, inside-last, inside-more, inside-start, scan-ends, scan-good, told-bad, told-good}
 use Rattle.pack.proofs.scan.scan.Needs as need
 use Rattle.pack.proofs.scan.scan.Needs.{then-at-count·by·then-at-count, then-at-count·by·else-at-count·then-is-unused}
 

@@ -1,6 +1,6 @@
 -- The first byte that is not 00 tells.
 use mathlib.Core.Path.{sym, _∙_}
-use Rattle.pack.proofs.Walks.{zero-more, zero-not, zero-all, zero-none}
+use Rattle.pack.proofs.Walks.{zero-more, zero-not, zero-all}
 use Rattle.pack.proofs.sector.is_zero.Needs as need
 
 pub returns-then-byte-ne0 : need.returns-then-byte-ne0

@@ -1,8 +1,8 @@
 -- One byte after the other is 00.
-use mathlib.Core.Path.{_≡_, sym, ap, _∙_}
+use mathlib.Core.Path.{_≡_, ap, _∙_}
 use mathlib.Core.List.{_++_}
 use native.Mathlib.Omega.{arith}
-use lib.ListN.{length, drop, replicate, set}
+use lib.ListN.{length, replicate, set}
 use Rattle.std.proofs.shelf.Edits.{fill-more}
 use Rattle.std.proofs.shelf.Lists.{append-nil, drop-all}
 use Rattle.pack.specs.Sector.{zeros}
