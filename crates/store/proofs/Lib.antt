@@ -2,3 +2,4 @@ pub mod Finds
 pub mod Copies
 pub mod Runs
 pub mod Outcomes
+pub mod Chunks
