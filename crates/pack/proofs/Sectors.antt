@@ -23,11 +23,6 @@ length-body kind part name payload long short =
     let rest = payload ++ zeros (468 - length payload) in
     omega (arith, length-append name rest, length-append payload (zeros (468 - length payload)), length-zeros (468 - length payload))
 
-pub length-sector : (kind part : ℕ) (name payload : List ℕ) → length name ≡ 32 → length payload ≤ 468 → length (sector kind part name payload) ≡ 512
-unfolding sector
-length-sector kind part name payload long short =
-    length-append (body kind part name payload) (four-bytes (weighed 1 (body kind part name payload))) ∙ omega (arith, length-body kind part name payload long short)
-
 -- behind the eight bytes of the head
 past-head : (kind part : ℕ) (name payload : List ℕ) → drop 8 (sector kind part name payload) ≡ name ++ (payload ++ (zeros (468 - length payload) ++ four-bytes (weighed 1 (body kind part name payload))))
 unfolding sector body

@@ -37,9 +37,6 @@ zero-all xs i past =
     let none : length xs - i ≡ 0 = omega arith in
     at-drop-all (λ ys. sameBytes ys (zeros (length xs - i))) xs i past ∙ ap (λ k. sameBytes [] (replicate k 0)) none
 
-pub zero-none : (xs : List ℕ) → sameBytes (drop 0 xs) (zeros (length xs - 0)) ≡ sameBytes xs (zeros (length xs))
-zero-none xs = ap (λ n. sameBytes xs (zeros n)) (omega arith)
-
 pub weighed-more : (xs : List ℕ) (i : ℕ) → i < length xs → weighed (i + 1) (drop i xs) ≡ (i + 1) * getD xs i 0 + weighed (i + 1 + 1) (drop (i + 1) xs)
 weighed-more xs i within = at-drop-more (weighed (i + 1)) xs i 0 within
 
