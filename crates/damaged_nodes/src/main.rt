@@ -5,6 +5,8 @@
 //   damage     bytes with a part replaced
 //   verdict    what the reader makes of a block
 //   families   the verdicts on many blocks that are damaged in one way
+#![tactic(auto)]
+
 mod damage;
 mod families;
 mod nodes;

@@ -4,6 +4,8 @@
 //   DigestKind   what every kind of digest answers: the digest of a byte string, and its code byte in links
 //   Fold         the kind for tests
 //   layer_of     the layer of a key under a kind
+#![tactic(auto)]
+
 mod digest;
 mod fold;
 mod hex;

@@ -2,6 +2,8 @@
 //
 //   Entry         an entry of a node by value
 //   block_limit   the most bytes of a block
+#![tactic(auto)]
+
 ghost use Rattle.std.specs.Prelude.{◌≡◌, ℕ};
 ghost use Rattle.node.specs.Laws.{Encodings, Fits, OfBytes};
 

@@ -4,6 +4,8 @@
 //   Cursor, Step      a place among its entries; an entry and the place behind it
 //   EntryParts        an entry as it stands in the block; read_entry reads one
 //   Item, read_item   the CBOR items of a block, one by one
+#![tactic(auto)]
+
 mod cursor;
 mod entry;
 mod item;

@@ -2,6 +2,8 @@
 //
 //   NodeWriter   begins a node of some number of entries, takes them one after the other, and last the first link
 //   write_node   a whole node at once
+#![tactic(auto)]
+
 mod entry;
 mod parts;
 mod whole;

@@ -2,6 +2,8 @@
 //
 //   Pack          the store
 //   MemoryFault   why memory is no good pack
+#![tactic(auto)]
+
 mod fault;
 mod pack;
 mod read;

@@ -4,6 +4,8 @@
 //   sample   the pack to damage
 //   damage   a byte that is changed, and the sum that is put right again
 //   lines    what the test and the store answer
+#![tactic(auto)]
+
 mod damage;
 mod lines;
 mod sample;

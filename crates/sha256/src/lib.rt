@@ -1,6 +1,8 @@
 // SHA-256 (FIPS 180-4), a digest kind.
 //
 //   Sha256   the kind, code 12 hex
+#![tactic(auto)]
+
 mod block;
 mod buffer;
 mod kind;

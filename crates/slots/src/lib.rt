@@ -2,6 +2,8 @@
 //
 //   Slots         the store
 //   MemoryFault   why memory has no room for it
+#![tactic(auto)]
+
 mod fault;
 mod memory;
 mod slot;

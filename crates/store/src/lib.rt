@@ -8,6 +8,8 @@
 //   call_each    each call once
 //   spent_since  what the calls on a store have cost
 //   BLOCK_LIMIT  the most bytes that a block has
+#![tactic(auto)]
+
 mod compared;
 mod copy;
 mod draft;

@@ -5,6 +5,8 @@
 //   buffer    buffers that show what was written into them
 //   tables    the calls
 //   copies    blocks copied from one store to another
+#![tactic(auto)]
+
 mod buffer;
 mod call;
 mod copies;

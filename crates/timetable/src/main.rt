@@ -3,6 +3,8 @@
 //   command   the commands, as lines of text
 //   lines     a text cut into lines
 //   session   the answers to a whole input
+#![tactic(auto)]
+
 ghost use Rattle.std.specs.Prelude.{◌<◌, ◌≤◌, length, IfOk};
 ghost use Rattle.timetable.specs.Session.{limit};
 

@@ -9,6 +9,8 @@
 //   delete_rebuilds_a_path            the tree after a delete
 //   equal_roots_mean_equal_maps       what a root tells of the map
 //   blocks_fit_a_store                what the blocks of a tree are
+#![tactic(auto)]
+
 mod change;
 mod map;
 mod root;

@@ -1,5 +1,7 @@
 // Prints digests and layers of known messages, and roots of known trees; the gate compares them with the values in `stdout`, which come from
 // elsewhere.
+#![tactic(auto)]
+
 mod messages;
 mod trees;
 

@@ -3,6 +3,8 @@
 //   layers         the layers of three keys under Fold
 //   write_lesson   a node with one lesson
 //   lesson_root    the root of the map with that lesson
+#![tactic(auto)]
+
 ghost use Rattle.std.specs.Prelude.{◌≡◌, ◌<◌, [], ◌∷◌, length, take, MatchOption};
 ghost use Rattle.worked_examples.specs.Layers.{WorkedLayers};
 ghost use Rattle.worked_examples.specs.Nodes.{WorkedNodes, lesson_bytes};
