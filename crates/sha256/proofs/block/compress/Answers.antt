@@ -9,7 +9,7 @@ pub loop-i-preserved : goal.loop-i-preserved
 loop-i-preserved c =
     let words = c.schedule-words.result in
     let i = c.loop-i.i in
-    ap (λ s. rounds s (drop (8 * (i + 1)) constants) (drop (8 * (i + 1)) words)) c.eight-rounds-state.ensures
+    ap (λ s. rounds s (drop (8 * (i + 1)) constants) (drop (8 * (i + 1)) words)) c.eight_rounds-state.ensures
     ∙ sym (rounds_eight constants words c.loop-i.state i (omega (arith, length-constants)) (omega arith))
     ∙ c.loop-i.invariant
 

@@ -10,4 +10,4 @@ returns c =
     let at = c.args.at in
     let n = length c.args.bytes.now in
     let size : at + n - at ≡ n = omega arith in
-    rw (size, drop-drop, c.copy-from-slice.ensures.after)
+    rw (size, drop-drop, c.copy_from_slice.ensures.after)

@@ -10,9 +10,9 @@ unfolding padding
 returns c =
     let rest = c.args.rest.now in
     let len = c.args.len in
-    let end = c.if-rest-lt-LENGTH-AT.end in
+    let end = c.if-rest-lt-LENGTH_AT.end in
     let ends : end ≡ length rest + 1 + zeros len + 8
-    = elim c.if-rest-lt-LENGTH-AT.branch [ then-rest-lt-LENGTH-AT w ↦ omega (arith, w.end-is, w.if-rest-lt-LENGTH-AT.true) | else-rest-lt-LENGTH-AT w ↦ omega (arith, w.end-is, w.if-rest-lt-LENGTH-AT.false) ] in
+    = elim c.if-rest-lt-LENGTH_AT.branch [ then-rest-lt-LENGTH-AT w ↦ omega (arith, w.end-is, w.if-rest-lt-LENGTH_AT.true) | else-rest-lt-LENGTH-AT w ↦ omega (arith, w.end-is, w.if-rest-lt-LENGTH_AT.false) ] in
     record {
       bytes = ap (take end) (c.put-3.ensures ∙ rw (c.put-2.ensures, c.put.ensures, c.length_bytes.ensures))
           ∙ padded_rest rest (length_bytes len) 128 end (zeros len) refl ends (omega arith);

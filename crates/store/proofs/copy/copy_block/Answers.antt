@@ -17,7 +17,7 @@ through g c =
     c.args.work.now
     c.find.new.out
     c.in-Some.len
-    (sym (ap done c.in-Some.is) ∙ c.in-ok-len.ensures.answer)
+    (sym (ap done c.in-Some.is) ∙ c.in_ok-len.ensures.answer)
     c.find.ensures.buffer
 
 pub returns-in-Ok : goal.returns-in-Ok

@@ -5,6 +5,6 @@ use Rattle.store.proofs.spent.spent_since.Goals as goal
 
 pub returns : goal.returns
 returns g c = record {
-  value = c.saturating-sub.ensures ∙ ap (λ n. c.args.before - n) c.free.ensures;
+  value = c.saturating_sub.ensures ∙ ap (λ n. c.args.before - n) c.free.ensures;
   spent = all_spent (g.S.Store.meaning c.args.store.now) (g.S.Store.lawful c.args.store.now);
 }

@@ -18,9 +18,9 @@ returns c =
     let tail = rest ++ padding (length message) in
     let made = c.pad-tail.result in
     let padded_rest : take (made.len - 0) made.bytes ≡ tail
-    = rw sub-zero (c.pad-tail.ensures.bytes ∙ ap (λ bytes. bytes ++ padding (length message)) c.as-chunks.ensures.back) in
-    let last : c.as-chunks-2.result.0.now ≡ blocks tail = c.as-chunks-2.ensures.front ∙ ap blocks padded_rest in
-    let state : c.compress-all-state.result ≡ compress_all start whole = c.compress-all-state.ensures ∙ rw (c.start-state.ensures.value, c.as-chunks.ensures.front) in
+    = rw sub-zero (c.pad-tail.ensures.bytes ∙ ap (λ bytes. bytes ++ padding (length message)) c.as_chunks.ensures.back) in
+    let last : c.as_chunks-2.result.0.now ≡ blocks tail = c.as_chunks-2.ensures.front ∙ ap blocks padded_rest in
+    let state : c.compress_all-state.result ≡ compress_all start whole = c.compress_all-state.ensures ∙ rw (c.start_state.ensures.value, c.as_chunks.ensures.front) in
     let end : c.compress_all.result ≡ compress_all start (whole ++ blocks tail)
     = c.compress_all.ensures ∙ rw (state, last) (sym (compress_all-append start whole (blocks tail))) in
-    c.to-bytes.ensures ∙ ap state_bytes (end ∙ ap (compress_all start) (sym (blocks-padded message)))
+    c.to_bytes.ensures ∙ ap state_bytes (end ∙ ap (compress_all start) (sym (blocks-padded message)))

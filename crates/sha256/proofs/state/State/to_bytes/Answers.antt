@@ -10,7 +10,7 @@ loop-i-preserved c =
     let words = state_words c.args.self in
     let bytes = c.loop-i.bytes in
     let i = c.loop-i.i in
-    let after = c.put.ensures ∙ ap (put bytes (4 * i)) c.to-be-bytes.ensures in (
+    let after = c.put.ensures ∙ ap (put bytes (4 * i)) c.to_be_bytes.ensures in (
       ap length after ∙ length-put bytes _ (4 * i) (omega arith) ∙ c.loop-i.invariant.0,
       rw after (words_put_more words bytes i c.loop-i-test.true (omega arith) c.loop-i.invariant.1),
     )
