@@ -4,8 +4,8 @@ ghost use Rattle.node.specs.Format.{encode};
 ghost use Rattle.node.specs.Values.{link_of, entry_of};
 
 use anyhow::anyhow;
-use bytes::Key;
 use digest::{Digest, DigestKind};
+use keys::Key;
 use node::{BLOCK_LIMIT, Entry};
 use node_writer::write_node;
 use sha256::Sha256;

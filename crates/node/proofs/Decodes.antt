@@ -5,8 +5,8 @@ use Rattle.std.specs.Str.{bytes_eq}
 use Rattle.std.proofs.lemmas.Slice.Eq.{bytes_eq-Decides}
 use Rattle.std.proofs.lemmas.List.{append-nil, drop_at, take_at}
 use Rattle.std.proofs.lemmas.Bool.{and_from, and_parts, ltb-true}
-use Rattle.bytes.specs.Shared.{shared}
-use Rattle.bytes.proofs.Fronts.{shared_rebuilds}
+use Rattle.keys.specs.Shared.{shared}
+use Rattle.keys.proofs.Fronts.{shared_rebuilds}
 use Rattle.node.specs.Decode.{argument, after_head, digest_at, link_at, after_link, Read, entry_at, entries_at, node_at, decode}
 use Rattle.node.specs.Format.{Entry, Node, head, link, link_or_null, entry_parts, entry, entries, encode}
 use Rattle.node.specs.Laws.{Encodes}

@@ -4,8 +4,8 @@ use Rattle.std.specs.List.{AllByRecursion as All}
 use Rattle.std.proofs.ByRecursion.{All-append, All-drop}
 use Rattle.std.proofs.lemmas.List.{length-drop}
 use Rattle.std.proofs.lemmas.Bool.{ltb-true}
-use Rattle.bytes.specs.Shared.{shared}
-use Rattle.bytes.proofs.Fronts.{shared_right}
+use Rattle.keys.specs.Shared.{shared}
+use Rattle.keys.proofs.Fronts.{shared_right}
 use Rattle.node.specs.Format.{Entry, Node, head, byte_string, link, link_or_null, entry_parts, entry, entries, opening, closing, encode}
 use Rattle.node.specs.WellFormed.{EntryFormed, WellFormed, Bytes, LinkBytes, EntryBytes, NodeBytes}
 

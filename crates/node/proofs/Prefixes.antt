@@ -3,8 +3,8 @@
 use Rattle.std.proofs.Common.{◌≡◌, ℕ, List, [], ◌∷◌, ◌++◌, length, drop, Some, None, Option, sym, refl, ap, ◌∙◌, append_assoc, arith}
 use mathlib.Core.List.{tail-eq_of_cons-eq as past}
 use Rattle.std.specs.List.{AllByRecursion as All}
-use Rattle.bytes.specs.Shared.{shared}
-use Rattle.bytes.proofs.Fronts.{shared_rebuilds}
+use Rattle.keys.specs.Shared.{shared}
+use Rattle.keys.proofs.Fronts.{shared_rebuilds}
 use Rattle.node.specs.Format.{Entry, Node, head, byte_string, link, link_or_null, entry_parts, entry, entries, encode}
 use Rattle.node.specs.WellFormed.{Link, EntryLinked, Linked}
 

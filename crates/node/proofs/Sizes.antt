@@ -2,7 +2,7 @@
 use Rattle.std.proofs.Common.{◌≡◌, ℕ, ◌+◌, ◌*◌, ◌≤◌, Bool, true, false, cond, ltb, List, [], ◌∷◌, length, drop, Some, None, Option, arith}
 use Rattle.std.specs.List.{AllByRecursion as All}
 use Rattle.std.proofs.lemmas.List.{length-append, length-drop}
-use Rattle.bytes.specs.Shared.{shared}
+use Rattle.keys.specs.Shared.{shared}
 use Rattle.node.specs.Format.{Entry, Node, head, link_or_null, entry_parts, entry, entries, encode}
 use Rattle.node.specs.WellFormed.{Link, EntryFormed, WellFormed}
 

@@ -14,7 +14,7 @@
 --
 -- A byte string is a list of numbers, and c is the code byte of the digest kind. Assumes nothing.
 use Rattle.std.specs.Prelude.{ℕ, ◌+◌, cond, List, [], ◌∷◌, ◌++◌, length, drop, Some, None, Option, nat_lt}
-use Rattle.bytes.specs.Shared.{shared}
+use Rattle.keys.specs.Shared.{shared}
 
 -- a key, the digest of its record, and the link to the node between this key and the next
 pub record Entry : Type 0 where

@@ -6,8 +6,8 @@
 --
 -- Assumes nothing.
 use Rattle.std.specs.Prelude.{ℕ, List, [], Some, None, Option}
-use Rattle.bytes.specs.Key.{key_bytes}
-use Rattle.bytes.specs.declared.key.Key.{Key}
+use Rattle.keys.specs.Key.{key_bytes}
+use Rattle.keys.specs.declared.key.Key.{Key}
 use Rattle.digest.specs.declared.digest.Digest.{Digest}
 use Rattle.node.specs.Format as format
 use Rattle.node.specs.declared.entry.Entry.{Entry}

@@ -1,6 +1,6 @@
 // An entry of a node by value.
-use bytes::Key;
 use digest::Digest;
+use keys::Key;
 
 // A key, the digest of its record, and the link to the node between this key and the next.
 #[derive(Clone, Copy)]

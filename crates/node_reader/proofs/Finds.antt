@@ -7,7 +7,7 @@ use Rattle.node.specs.Format as format
 use Rattle.node.specs.Format.{Node}
 use Rattle.node.specs.Values.{entry_of}
 use Rattle.node.specs.declared.entry.Entry.{Entry}
-use Rattle.bytes.specs.Key.{key_bytes}
+use Rattle.keys.specs.Key.{key_bytes}
 use Rattle.node_reader.specs.Find.{moved, place}
 use Rattle.node_reader.specs.Nodes.{Ends, Rest, Steps, with_entry}
 use Rattle.node_reader.specs.Reader.{OfNode, start_of}

@@ -1,10 +1,10 @@
 -- One entry of what is left of a node: what was read is what stands there. Assumes nothing.
 use Rattle.std.proofs.Common.{◌≡◌, ℕ, ◌+◌, ◌-◌, ◌<◌, List, [], ◌∷◌, ◌++◌, length, take, drop, Some, Option, sym, refl, ap, ◌∙◌, subst, append_assoc, arith}
 use Rattle.std.proofs.lemmas.List.{drop_at, length-append, length-drop, length-take-le}
-use Rattle.bytes.specs.Key.{key_bytes}
-use Rattle.bytes.specs.Shared.{shared}
-use Rattle.bytes.specs.declared.key.Key.{Key}
-use Rattle.bytes.proofs.Fronts.{shared_left, shared_rebuilds, shared_right}
+use Rattle.keys.specs.Key.{key_bytes}
+use Rattle.keys.specs.Shared.{shared}
+use Rattle.keys.specs.declared.key.Key.{Key}
+use Rattle.keys.proofs.Fronts.{shared_left, shared_rebuilds, shared_right}
 use Rattle.node.specs.Format as format
 use Rattle.node.specs.Format.{Node, closing, entries, entry, entry_parts}
 use Rattle.node.specs.Values.{entry_of, key_before}

@@ -12,8 +12,8 @@
 -- c is the code byte of the digest kind. Assumes nothing.
 use Rattle.std.specs.Prelude.{◌≡◌, ℕ, ◌+◌, ◌<◌, List, ◌∷◌, ◌++◌, length, take, drop, None, Option}
 use Rattle.std.specs.List.{AllByRecursion as All}
-use Rattle.bytes.specs.Shared.{shared}
-use Rattle.bytes.specs.Size.{Joins}
+use Rattle.keys.specs.Shared.{shared}
+use Rattle.keys.specs.Size.{Joins}
 use Rattle.node.specs.Format.{Node, closing, entries}
 use Rattle.node.specs.Format as format
 use Rattle.node.specs.Laws.{Encodes}

@@ -1,5 +1,5 @@
 // Where a reader of entries stands.
-use bytes::Key;
+use keys::Key;
 use node::Entry;
 
 // The place of the next entry, how many are to come, and the key before it.

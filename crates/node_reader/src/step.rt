@@ -1,6 +1,6 @@
 // One entry on.
 ghost use Rattle.std.specs.Prelude.{◌≡◌, ◌++◌, length, take, MatchOption};
-ghost use Rattle.bytes.specs.Key.{key_bytes};
+ghost use Rattle.keys.specs.Key.{key_bytes};
 ghost use Rattle.node.specs.Values.{key_before, link_of};
 ghost use Rattle.node.specs.WellFormed.{Link};
 ghost use Rattle.node_reader.specs.Entries.{lent};
@@ -8,8 +8,8 @@ ghost use Rattle.node_reader.specs.Nodes.{Ends, Extends, Steps};
 
 use crate::cursor::{Cursor, Step};
 use crate::entry::read_parts;
-use bytes::{Key, shared_len};
 use digest::Digest;
+use keys::{Key, shared_len};
 use node::Entry;
 
 // The next entry, and the cursor behind it.

@@ -1,7 +1,7 @@
 -- What a writer has written after each of its calls. Assumes nothing.
 use Rattle.std.proofs.Common.{◌≡◌, ℕ, ◌+◌, ◌-◌, List, [], ◌∷◌, ◌++◌, length, take, drop, Option, sym, refl, ap, ◌∙◌, arith}
 use Rattle.std.proofs.lemmas.List.{append_assoc, append-nil, length-append, take_rest}
-use Rattle.bytes.specs.Shared.{shared}
+use Rattle.keys.specs.Shared.{shared}
 use Rattle.node.specs.Values.{key_before}
 use Rattle.node.specs.Format.{Entry, closing, encode, entries, entry, entry_parts, opening}
 use Rattle.node_writer.specs.Put.{Puts}

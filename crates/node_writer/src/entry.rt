@@ -5,7 +5,7 @@ ghost use Rattle.node.specs.Values.{entry_of};
 ghost use Rattle.node_writer.specs.Put.{Puts};
 
 use crate::parts::{NUMBER, write_bytes, write_head, write_link, write_link_or_null, write_string};
-use bytes::shared_len;
+use keys::shared_len;
 use node::Entry;
 
 // Writes an entry after the key `before`, and answers where it ends. Each of its four fields stands behind its name.

@@ -1,7 +1,7 @@
 // A node that is being written. The buffer is lent to each call.
 ghost use Rattle.std.specs.Prelude.{◌+◌, ◌*◌, ◌≤◌};
 
-use bytes::Key;
+use keys::Key;
 
 mod begin;
 mod finish;

@@ -1,8 +1,8 @@
 -- A path follows links, and says of its key what the map does. Assumes nothing.
 use Rattle.std.proofs.Common.{◌≡◌, ℕ, zero, suc, ◌<◌, Bool, true, false, List, [], ◌∷◌, ◌++◌, Some, None, Option, sym, refl, ap, ◌∙◌, arith}
 use Rattle.std.specs.Option.{option_map}
-use Rattle.bytes.specs.Order.{before}
-use Rattle.bytes.proofs.Orders.{before_self, before_one_way}
+use Rattle.keys.specs.Order.{before}
+use Rattle.keys.proofs.Orders.{before_self, before_one_way}
 use Rattle.digest.specs.Kind.{Kind}
 use Rattle.digest.specs.Layer.{layer}
 use Rattle.tree.specs.Change.{link_up}

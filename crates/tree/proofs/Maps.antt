@@ -4,8 +4,8 @@ use Rattle.std.specs.List.{ContainsAt as Has, AllByRecursion as All}
 use Rattle.std.proofs.ByRecursion.{all-has, all_has_itself, All-weaker, has_append_right}
 use Rattle.std.proofs.lemmas.Bool.{cases_Bool, cond_both}
 use Rattle.std.proofs.lemmas.Bool.Decides.{nat_tests}
-use Rattle.bytes.specs.Order.{before}
-use Rattle.bytes.proofs.Orders.{before_self, before_trans, before_neither, before_one_way}
+use Rattle.keys.specs.Order.{before}
+use Rattle.keys.proofs.Orders.{before_self, before_trans, before_neither, before_one_way}
 use Rattle.tree.specs.Map.{IsKey, IsRecord, Item, Map, BeforeAll, Rising, insert, delete, lookup}
 use Rattle.tree.specs.MapLaws.{MapLaws}
 use Rattle.tree.proofs.Rows.{both-all}

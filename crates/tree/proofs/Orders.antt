@@ -3,7 +3,7 @@ use Rattle.std.proofs.Common.{◌≡◌, ℕ, zero, suc, ◌<◌, Bool, true, fa
 use mathlib.Core.List.Sublistᴰ as ListSublistᴰ
 use mathlib.Core.List.{Sublistᴰ}
 use Rattle.std.proofs.lemmas.Bool.{cond_both, eq-eqb, eqb-true}
-use Rattle.bytes.specs.Order.{before}
+use Rattle.keys.specs.Order.{before}
 use Rattle.digest.specs.Kind.{Kind}
 use Rattle.digest.specs.Layer.{layer}
 use Rattle.tree.specs.ByLayer.{on_layer, by_layer}

@@ -1,8 +1,8 @@
 -- Where a key is or belongs in a map, and in the node at a layer. Assumes nothing.
 use Rattle.std.proofs.Common.{◌≡◌, ℕ, Bool, true, false, not, List, [], ◌∷◌, ◌++◌, Option, refl, subst}
 use Rattle.std.specs.List.{AllByRecursion as All}
-use Rattle.bytes.specs.Order.{before}
-use Rattle.bytes.proofs.Orders.{before_self, before_neither, before_one_way}
+use Rattle.keys.specs.Order.{before}
+use Rattle.keys.proofs.Orders.{before_self, before_neither, before_one_way}
 use Rattle.digest.specs.Kind.{Kind}
 use Rattle.tree.specs.Laws.{Parted}
 use Rattle.tree.specs.Map.{Item, Map, BeforeAll, Rising, insert, delete}

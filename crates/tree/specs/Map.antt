@@ -14,8 +14,8 @@
 -- Assumes nothing.
 use Rattle.std.specs.Prelude.{◌≡◌, ℕ, true, cond, List, [], ◌∷◌, length, Some, None, Option}
 use Rattle.std.specs.List.{AllByRecursion as All}
-use Rattle.bytes.specs.Order.{before}
-use Rattle.bytes.specs.Size.{KeySized, RecordSized}
+use Rattle.keys.specs.Order.{before}
+use Rattle.keys.specs.Size.{KeySized, RecordSized}
 use Rattle.node.specs.WellFormed.{Bytes}
 
 -- 1 to 64 bytes

@@ -16,7 +16,7 @@
 -- A path has one row for each layer, from the highest down to 0, and so has a forked path. Where there is no node, as past a null link and
 -- below the node that has the key, stands the row with no key and no link. Assumes nothing.
 use Rattle.std.specs.Prelude.{ℕ, zero, suc, Bool, false, cond, not, List, [], ◌∷◌, Some, None, Option}
-use Rattle.bytes.specs.Order.{before}
+use Rattle.keys.specs.Order.{before}
 use Rattle.digest.specs.Kind.{Kind}
 use Rattle.tree.specs.Map.{Map}
 use Rattle.tree.specs.Row.{end, more, first_gap, last_gap, gap_at}

@@ -5,8 +5,8 @@ ghost use Rattle.node.specs.Values.{link_of, entry_of};
 ghost use Rattle.node.specs.Format.{encode};
 ghost use Rattle.sha256.specs.Sha256.{sha256_hash};
 
-use bytes::Key;
 use digest::{Digest, DigestKind};
+use keys::Key;
 use node::Entry;
 use node_writer::write_node;
 use sha256::Sha256;

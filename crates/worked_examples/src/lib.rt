@@ -10,8 +10,8 @@ ghost use Rattle.worked_examples.specs.Layers.{WorkedLayers};
 ghost use Rattle.worked_examples.specs.Nodes.{WorkedNodes, lesson_bytes};
 ghost use Rattle.worked_examples.specs.Trees.{WorkedTrees, lesson_root};
 
-use bytes::Key;
 use digest::{Digest, DigestKind, Fold, layer_of};
+use keys::Key;
 use node::Entry;
 use node_writer::write_node;
 

@@ -1,0 +1,15 @@
+// What two byte strings have in common at the front.
+ghost use Rattle.std.specs.Prelude.{◌≡◌};
+ghost use Rattle.keys.specs.Shared.{shared, LongestShared};
+
+// How many bytes two byte strings share at the front.
+pub fn shared_len(a: &[u8], b: &[u8]) -> usize
+    ensures value { result ≡ shared a.now b.now }
+    ensures longest { LongestShared a.now b.now result }
+{
+    let mut n = 0;
+    while n < a.len() && n < b.len() && a[n] == b[n] {
+        n += 1;
+    }
+    n
+}
