@@ -1,12 +1,11 @@
 -- Which nodes a change makes: those of the changed path are nodes of the changed tree, and with the nodes that were there they are all of
 -- them. What is said of each node is said for any P. Assumes nothing.
-use Rattle.std.proofs.Common.{◌≡◌, ℕ, zero, suc, List, [], ◌∷◌, ◌++◌, map, Some, None, sym, ap, subst, arith}
+use Rattle.std.proofs.Common.{◌≡◌, ℕ, zero, suc, List, [], ◌∷◌, ◌++◌, Some, None, sym, ap, subst, arith}
 use Rattle.std.specs.List.{AllByRecursion}
 use Rattle.std.proofs.ByRecursion.{All-append}
 use Rattle.digest.specs.Kind.{Kind}
 use Rattle.tree.specs.Change.{link_to, placed}
 use Rattle.tree.specs.Map.{Item, Map}
-use Rattle.tree.specs.Path.{has, path}
 use Rattle.tree.specs.Row.{Row, end, more, first_gap, last_gap, gap_at, set_first, meet, graft}
 use Rattle.tree.specs.Tree.{cut, Links, digest, row, Placed, placed_at, over_gaps, nodes_below}
 use Rattle.tree.proofs.Layers.{Under}

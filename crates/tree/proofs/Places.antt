@@ -1,5 +1,5 @@
 -- Where a key is or belongs in a map, and in the node at a layer. Assumes nothing.
-use Rattle.std.proofs.Common.{◌≡◌, ℕ, Bool, true, false, not, List, [], ◌∷◌, ◌++◌, Option, refl, subst}
+use Rattle.std.proofs.Common.{◌≡◌, ℕ, Bool, true, false, List, [], ◌∷◌, ◌++◌, Option, refl, subst}
 use Rattle.std.specs.List.{AllByRecursion}
 use Rattle.keys.specs.Order.{before}
 use Rattle.keys.proofs.Orders.{before_self, before_neither, before_one_way}

@@ -11,7 +11,7 @@ use Rattle.tree.specs.ByLayer.{by_layer, nodes_up}
 use Rattle.tree.specs.Change.{insert_up, raise, Rebuilt, upward, rebuilt, single, grown, shrunk, insert_path, delete_path, handed}
 use Rattle.tree.specs.Laws.{Rebuilds, InsertLaw, DeleteLaw}
 use Rattle.tree.specs.Map.{Item, Map, insert, delete}
-use Rattle.tree.specs.Path.{has, gap_of, path, ForkedPath, forked_path}
+use Rattle.tree.specs.Path.{gap_of, path, ForkedPath, forked_path}
 use Rattle.tree.specs.Tree.{cut, Links, row, top, root_node, Placed, placed_at, over_gaps, nodes_below, nodes, wide, any_wide, crowded}
 use Rattle.tree.proofs.Changes.{layers_of, rest_of, rest_layers, head_layers, forked_path-head, over, under, path_layers, fork_layers, gap_of-all, path_sound, fork_sound, delete_complete, insert_complete, known, known_layers, known_sound, known_complete}
 use Rattle.tree.proofs.Layers.{Under, under_top, under_left, under_right, under_append, top-insert}

@@ -1,5 +1,5 @@
 -- The digest of the bytes that were written is the root that the definitions compute.
-use Rattle.std.proofs.Common.{length, take, ap, ◌∙◌, arith, rules}
+use Rattle.std.proofs.Common.{length, ap, ◌∙◌, arith}
 use Rattle.std.proofs.lemmas.List.{length-take}
 use Rattle.digest.specs.Fold.{fold_hash}
 use Rattle.worked_examples.proofs.Trees.{lesson_folded, worked_trees}
