@@ -4,7 +4,7 @@ use Rattle.damaged_nodes.proofs.verdict.entries_of.Goals as goal
 
 pub loop-step-preserved : goal.loop-step-preserved
 loop-step-preserved c =
-    handed_more _ _ _ _ _ c.in-Some.step.entry c.in-ok-push.ensures.items c.in-Some.ensures c.loop-step.invariant
+    handed_more _ _ _ _ _ c.in-Some.step.entry c.in_ok-push.ensures.items c.in-Some.ensures c.loop-step.invariant
 
 pub returns : goal.returns
-returns c = handed_all _ _ c.loop-step.cursor c.in-default.ensures c.loop-step.invariant
+returns c = handed_all _ _ c.loop-step.cursor c.in_default.ensures c.loop-step.invariant

@@ -10,9 +10,9 @@ pub returns : goal.returns
 returns g c =
     let reads = c.in-Some.ensures in
     not_from_Decides _ (slice_eq-Decides Decides-eqb _ _ _ c.eq.ensures) c.if-eq.false
-    (c.as-slice-2.ensures.value
-    ∙ c.in-ok-again.ensures
+    (c.as_slice-2.ensures.value
+    ∙ c.in_ok-again.ensures
     ∙ same_again g.K.DigestKind.kind.code c.args.block.now c.in-Some.reader reads
-    (link_of c.first.result) (map entry_of c.as-slice.result.now)
+    (link_of c.first.result) (map entry_of c.as_slice.result.now)
     (c.first.ensures reads.node reads.of_node)
-    (ap (map entry_of) c.as-slice.ensures.value ∙ c.in-ok-entries.ensures reads.node reads.of_node))
+    (ap (map entry_of) c.as_slice.ensures.value ∙ c.in_ok-entries.ensures reads.node reads.of_node))
