@@ -1,6 +1,6 @@
 -- Cutting a text at its first newline again and again gives its lines, and the lines give the text back. Assumes nothing.
 use Rattle.std.proofs.Common.{◌≡◌, ℕ, ◌+◌, ◌-◌, ◌<◌, Bool, true, false, cond, eqb, List, [], ◌∷◌, ◌++◌, length, take, drop, sym, refl, ap, ◌∙◌, inl, inr, ⊎_elim, arith}
-use Rattle.std.specs.List.{flat_map, AllByRecursion as All}
+use Rattle.std.specs.List.{flat_map, AllByRecursion}
 use Rattle.std.proofs.ByRecursion.{All-from_get_or}
 use Rattle.std.proofs.lemmas.List.{take_all, nil_from_length, drop_more, get_or-take, length-take-le, length-drop, length-append, take-append-drop, take_rest}
 use Rattle.std.proofs.lemmas.Bool.{eqb-true, eqb-false, ne_eqb}
@@ -65,15 +65,15 @@ split_shorter text line rest cut some =
 
 -- no line has a newline in it
 
-each_before : (b : ℕ) (ls : List (List ℕ)) → (b ≡ newline → ⊥) → All Line ls → All Line (before b ls)
+each_before : (b : ℕ) (ls : List (List ℕ)) → (b ≡ newline → ⊥) → AllByRecursion Line ls → AllByRecursion Line (before b ls)
 each_before b [] other all = ((other, tt), tt)
 each_before b (line ∷ rest) other all = ((other, all.0), all.1)
 
-each_more : (b : ℕ) (t : Bool) (ls : List (List ℕ)) → eqb b newline ≡ t → All Line ls → All Line (cond t ([] ∷ ls) (before b ls))
+each_more : (b : ℕ) (t : Bool) (ls : List (List ℕ)) → eqb b newline ≡ t → AllByRecursion Line ls → AllByRecursion Line (cond t ([] ∷ ls) (before b ls))
 each_more b true ls is all = (tt, all)
 each_more b false ls is all = each_before b ls (eqb-false b newline is) all
 
-lines_each : (text : List ℕ) → All Line (lines text)
+lines_each : (text : List ℕ) → AllByRecursion Line (lines text)
 unfolding lines
 lines_each [] = tt
 lines_each (b ∷ text) = each_more b (eqb b newline) (lines text) refl (lines_each text)

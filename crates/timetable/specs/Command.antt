@@ -1,7 +1,7 @@
 -- What a command is as text.
 --
 --   text_of      the line that is a command
---   NoCommand   a line that is no command
+--   NoCommand    a line that is no command
 --   Parses       which command a line is, if any
 --   command_of   the same as a function
 --

@@ -6,13 +6,13 @@
 --   lines           the lines of a text, in order
 --   Line            bytes with no newline among them
 --   Closed          a text that is empty or ends with a newline
---   LinesOf        what the lines of a text are
---   FirstNewline   the length of the first line
+--   LinesOf         what the lines of a text are
+--   FirstNewline    the length of the first line
 --   Splits          the first line and the text after it
 --
 -- Assumes nothing.
 use Rattle.std.specs.Prelude.{◌≡◌, ℕ, ◌<◌, ◌≤◌, cond, ◌⊎◌, List, [], ◌∷◌, ◌++◌, length, ◌==◌, ◌≢◌, slice_index}
-use Rattle.std.specs.List.{flat_map, AllByRecursion as All}
+use Rattle.std.specs.List.{flat_map, AllByRecursion}
 
 -- 0A
 abbrev pub newline : ℕ
@@ -34,7 +34,7 @@ lines (b ∷ text) = cond (b == newline) ([] ∷ lines text) (before b (lines te
 
 -- no byte is a newline
 abbrev pub Line : List ℕ → Type 0
-Line = All (λ b. b ≢ newline)
+Line = AllByRecursion (λ b. b ≢ newline)
 
 -- no line lacks its newline
 abbrev pub Closed : List ℕ → Type 0
@@ -43,7 +43,7 @@ Closed text = (text ≡ []) ⊎ ((front : List ℕ) × (text ≡ terminated fron
 -- this fixes the lines of a text, with no word of how they are found
 pub record LinesOf (text : List ℕ) (ls : List (List ℕ)) : Type 0 where
   -- no line has a newline in it
-  pub each : All Line ls
+  pub each : AllByRecursion Line ls
   -- the lines, each followed by a newline, are the text
   pub closed : Closed text → flat_map terminated ls ≡ text
   -- or, where the last line lacks its newline, the text with a newline after it

@@ -11,7 +11,7 @@ impl Command {
     pub fn parse(line: &[u8]) -> Option<Command>
         ensures { Parses line.now result }
     {
-        if line == b"root" {
+        if line == b"root".as_slice() {
             Some(Command::Root)
         } else {
             None

@@ -5,8 +5,8 @@ use Rattle.timetable.proofs.lines.split_line.Goals as goal
 
 pub returns-in-empty : goal.returns-in-empty
 returns-in-empty c =
-    splits_last _ _ c.line-length.ensures _ _ c.split-at.ensures.front c.split-at.ensures.back (omega (arith, ltb-true))
+    splits_last _ _ c.line_length.ensures _ _ c.split_at.ensures.front c.split_at.ensures.back (omega (arith, ltb-true))
 
 pub returns-in-len1-up : goal.returns-in-len1-up
 returns-in-len1-up c =
-    splits_newline _ _ c.line-length.ensures _ _ c.split-at.ensures.front c.split-at.ensures.back (omega (arith, ltb-false))
+    splits_newline _ _ c.line_length.ensures _ _ c.split_at.ensures.front c.split_at.ensures.back (omega (arith, ltb-false))
