@@ -13,7 +13,7 @@ use Rattle.node.specs.Format.{Node, encode}
 use Rattle.node.specs.Format as format
 use Rattle.node.specs.Values.{entry_of}
 use Rattle.node.specs.declared.entry.Entry.{Entry}
-use Rattle.node_reader.specs.Nodes.{Rest, Ends, Steps, with_entry}
+use Rattle.node_reader.specs.Nodes.{Rest, Ends, Steps}
 use Rattle.node_reader.specs.Reader.{OfNode, Reads, start_of}
 use Rattle.node_reader.specs.declared.cursor.Cursor.{Cursor}
 use Rattle.node_reader.specs.declared.reader.NodeReader.{NodeReader}
