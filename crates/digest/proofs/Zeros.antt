@@ -2,7 +2,7 @@
 use Rattle.std.proofs.Common.{◌≡◌, ℕ, zero, suc, ◌+◌, ◌*◌, ◌/◌, ◌^◌, ◌<◌, ◌≤◌, List, [], ◌∷◌, ◌++◌, length, get_or, take, drop, sym, refl, ap, ◌∙◌, mul-le-mul_right, mul_assoc, suc-mul, add-mul, add_comm, pow-suc, zero-mul, arith, pow_pos, pow-add}
 use lib.Count.{count_leading_zeros, leading_length, leading_top, leading_unique}
 use Rattle.std.specs.Simd.{first_chunks}
-use Rattle.std.specs.List.{flat_map, AllByRecursion as All}
+use Rattle.std.specs.List.{flat_map, AllByRecursion}
 use Rattle.std.proofs.ByRecursion.{All-from_get_or, All-get_or, All-take, All-drop}
 use Rattle.std.proofs.lemmas.List.{append_assoc, append-nil, at_drop_more, drop_all, drop-drop, length-drop, length-take-le, take-append-drop}
 use Rattle.digest.specs.Layer.{zero_bits}
@@ -30,7 +30,7 @@ abbrev pub big_endian : List ℕ → ℕ
 big_endian [] = 0
 big_endian (b ∷ bytes) = b * 2 ^ (8 * length bytes) + big_endian bytes
 
-pub big_endian_below : (bytes : List ℕ) → All (λ b. b < 256) bytes → big_endian bytes < 2 ^ (8 * length bytes)
+pub big_endian_below : (bytes : List ℕ) → AllByRecursion (λ b. b < 256) bytes → big_endian bytes < 2 ^ (8 * length bytes)
 big_endian_below [] small = omega arith
 big_endian_below (b ∷ bytes) (here, rest) =
     let k = 8 * length bytes in
@@ -53,7 +53,7 @@ zero_bits_zero (suc b ∷ word) rest none =
     absurd (omega (arith, add-mul b 1 (2 ^ k), pow_pos k))
 
 -- a word that is not: what follows it does not matter
-pub zero_bits_word : (word rest : List ℕ) → All (λ b. b < 256) word → 0 < big_endian word
+pub zero_bits_word : (word rest : List ℕ) → AllByRecursion (λ b. b < 256) word → 0 < big_endian word
     → zero_bits (word ++ rest) ≡ count_leading_zeros (8 * length word) (big_endian word)
 unfolding zero_bits
 zero_bits_word [] rest small some = absurd (omega arith)
@@ -80,9 +80,9 @@ joined_chunks n (suc k) bytes =
 
 -- four bytes
 abbrev pub Word : List ℕ → Type 0
-Word bytes = (length bytes ≡ 4) × All (λ b. b < 256) bytes
+Word bytes = (length bytes ≡ 4) × AllByRecursion (λ b. b < 256) bytes
 
-pub chunks_words : (k : ℕ) (bytes : List ℕ) → k * 4 ≤ length bytes → All (λ b. b < 256) bytes → All Word (first_chunks 4 k bytes)
+pub chunks_words : (k : ℕ) (bytes : List ℕ) → k * 4 ≤ length bytes → AllByRecursion (λ b. b < 256) bytes → AllByRecursion Word (first_chunks 4 k bytes)
 chunks_words zero bytes long small = tt
 chunks_words (suc k) bytes long small =
     let four : length (take 4 bytes) ≡ 4 = length-take-le 4 bytes (omega (arith, suc-mul k 4)) in
@@ -99,7 +99,7 @@ word_value (a ∷ (b ∷ (c ∷ (d ∷ [])))) four = omega arith
 word_value (a ∷ (b ∷ (c ∷ (d ∷ (e ∷ rest))))) four = absurd (omega arith)
 
 -- one word on, where it is zero
-pub from_zero : (words : List (List ℕ)) (i : ℕ) → i < length words → All Word words → big_endian (get_or words i []) ≡ 0
+pub from_zero : (words : List (List ℕ)) (i : ℕ) → i < length words → AllByRecursion Word words → big_endian (get_or words i []) ≡ 0
     → zero_bits (from i words) ≡ 32 + zero_bits (from (i + 1) words)
 from_zero words i within all none =
     let word = All-get_or Word words i [] within all in
@@ -107,7 +107,7 @@ from_zero words i within all none =
     rw step (zero_bits_zero (get_or words i []) (from (i + 1) words) none ∙ omega (arith, word.0))
 
 -- and where it is not
-pub from_word : (words : List (List ℕ)) (i : ℕ) → i < length words → All Word words → 0 < big_endian (get_or words i [])
+pub from_word : (words : List (List ℕ)) (i : ℕ) → i < length words → AllByRecursion Word words → 0 < big_endian (get_or words i [])
     → zero_bits (from i words) ≡ count_leading_zeros 32 (big_endian (get_or words i []))
 from_word words i within all some =
     let word = All-get_or Word words i [] within all in
@@ -117,7 +117,7 @@ from_word words i within all some =
 
 -- a digest's eight words
 pub record Words (bytes : List ℕ) (words : List (List ℕ)) : Type 0 where
-  pub each : All Word words
+  pub each : AllByRecursion Word words
   pub eight : length words ≡ 8
   pub all : from 0 words ≡ bytes
 

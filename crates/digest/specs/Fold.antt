@@ -7,7 +7,7 @@
 -- Assumes nothing.
 use Rattle.std.specs.Prelude.{◌≡◌, ℕ, ◌+◌, ◌%◌, ◌<◌, cond, List, [], ◌∷◌, map, length, ◌==◌, refl}
 use Rattle.std.proofs.Common.{mod-lt, lit<}
-use Rattle.std.specs.List.{range_with_len, AllByRecursion as All}
+use Rattle.std.specs.List.{range_with_len, AllByRecursion}
 use Rattle.digest.specs.Kind.{Kind}
 
 -- of bytes whose first stands at position p: the sum of those at positions i, i + 32, i + 64 and so on, for an i below 32
@@ -26,11 +26,11 @@ pub fold_length : (message : List ℕ) → length (fold_hash message) ≡ 32
 unfolding fold_hash
 fold_length message = refl
 
-below : (message : List ℕ) (is : List ℕ) → All (λ b. b < 256) (map (fold_byte message) is)
+below : (message : List ℕ) (is : List ℕ) → AllByRecursion (λ b. b < 256) (map (fold_byte message) is)
 below message [] = tt
 below message (i ∷ is) = (mod-lt (column i 0 message) (lit< tt), below message is)
 
-pub fold_bytes : (message : List ℕ) → All (λ b. b < 256) (fold_hash message)
+pub fold_bytes : (message : List ℕ) → AllByRecursion (λ b. b < 256) (fold_hash message)
 unfolding fold_hash
 fold_bytes message = below message (range_with_len 0 32)
 

@@ -4,7 +4,7 @@
 --
 -- A byte string is a list of numbers. Assumes nothing.
 use Rattle.std.specs.Prelude.{◌≡◌, ℕ, ◌<◌, List, length}
-use Rattle.std.specs.List.{AllByRecursion as All}
+use Rattle.std.specs.List.{AllByRecursion}
 
 pub record Kind : Type 0 where
   -- the digest of each byte string
@@ -13,6 +13,6 @@ pub record Kind : Type 0 where
   pub code : ℕ
   -- a digest is 32 bytes
   pub hash_length : (message : List ℕ) → length (hash message) ≡ 32
-  pub hash_bytes : (message : List ℕ) → All (λ b. b < 256) (hash message)
+  pub hash_bytes : (message : List ℕ) → AllByRecursion (λ b. b < 256) (hash message)
   -- the code is a byte below 80 hex
   pub code_below : code < 128

@@ -1,6 +1,6 @@
 -- What is read from an encoding is the node, so that decoding undoes encoding. Assumes nothing.
 use Rattle.std.proofs.Common.{◌≡◌, ℕ, ◌+◌, ◌%◌, Bool, true, false, cond, ◌&&◌, ltb, List, [], ◌∷◌, ◌++◌, length, drop, Some, None, Option, sym, refl, ap, ◌∙◌, append_assoc, arith}
-use Rattle.std.specs.List.{AllByRecursion as All}
+use Rattle.std.specs.List.{AllByRecursion}
 use Rattle.std.specs.Str.{bytes_eq}
 use Rattle.std.proofs.lemmas.Slice.Eq.{bytes_eq-Decides}
 use Rattle.std.proofs.lemmas.List.{append-nil, drop_at, take_at}
@@ -52,7 +52,7 @@ entry_read c before e r formed =
     let key = shared_rebuilds before e.key in
     rw (parts_right c k p e.after e.value r, at_k.0, at_k.1, drop_at k from_p (length k) refl, take_at k from_p (length k) refl, at_p.0, at_p.1, at_t.0, at_t.1, digest_read c e.value r formed.value, drop_at (link c e.value) r 41 (omega (arith, formed.value)), key)
 
-entries_read : (c : ℕ) (before : List ℕ) (es : List Entry) (r : List ℕ) → All EntryFormed es
+entries_read : (c : ℕ) (before : List ℕ) (es : List Entry) (r : List ℕ) → AllByRecursion EntryFormed es
     → entries_at (length es) before (entries c before es ++ r) ≡ record { value = es; rest = r }
 entries_read c before [] r formed = refl
 entries_read c before (e ∷ es) r formed =

@@ -1,12 +1,12 @@
 -- The test of well-formed nodes decides them, and their links are digests. Assumes nothing.
 use Rattle.std.proofs.Common.{ℕ, Bool, leb, List, [], ◌∷◌, length, Some, None, Decides, Option, refl}
-use Rattle.std.specs.List.{AllByRecursion as All}
+use Rattle.std.specs.List.{AllByRecursion}
 use Rattle.std.proofs.ByRecursion.{All-weaker}
 use Rattle.std.proofs.lemmas.Bool.{and_from, and_parts, eq-eqb, eqb-true, le-leb, leb-true}
 use Rattle.node.specs.Format.{Entry, Node}
 use Rattle.node.specs.WellFormed.{Digest, Link, EntryLinked, Linked, EntryFormed, WellFormed, all, is_digest, is_link, entry_formed, well_formed}
 
-all_decides : {X : Type 0} (test : X → Bool) (P : X → Type 0) → ((x : X) → Decides (test x) (P x)) → (xs : List X) → Decides (all test xs) (All P xs)
+all_decides : {X : Type 0} (test : X → Bool) (P : X → Type 0) → ((x : X) → Decides (test x) (P x)) → (xs : List X) → Decides (all test xs) (AllByRecursion P xs)
 all_decides test P each [] = ((λ _. tt), (λ _. refl))
 all_decides test P each (x ∷ xs) =
     let rest = all_decides test P each xs in (
@@ -53,7 +53,7 @@ node_decides n =
 
 -- well-formed nodes have links that are digests
 
-entries_linked : (es : List Entry) → All EntryFormed es → All EntryLinked es
+entries_linked : (es : List Entry) → AllByRecursion EntryFormed es → AllByRecursion EntryLinked es
 entries_linked es = All-weaker EntryFormed EntryLinked (λ e formed. record { value = formed.value; after = formed.after }) es
 
 pub formed_linked : (n : Node) → WellFormed n → Linked n

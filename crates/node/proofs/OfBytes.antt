@@ -1,6 +1,6 @@
 -- The encoding of a node made of bytes is made of bytes. Assumes nothing.
 use Rattle.std.proofs.Common.{◌≡◌, ℕ, ◌+◌, ◌<◌, ◌≤◌, Bool, true, false, cond, ltb, List, [], ◌∷◌, ◌++◌, length, drop, Some, None, Option, refl, arith, lit<}
-use Rattle.std.specs.List.{AllByRecursion as All}
+use Rattle.std.specs.List.{AllByRecursion}
 use Rattle.std.proofs.ByRecursion.{All-append, All-drop}
 use Rattle.std.proofs.lemmas.List.{length-drop}
 use Rattle.std.proofs.lemmas.Bool.{ltb-true}
@@ -43,7 +43,7 @@ entry_bytes c before e code formed h =
     parts_bytes c (drop p e.key) p e.after e.value code (omega (arith, length-drop p e.key, formed.short)) (All-drop (λ x. x < 256) p e.key h.key)
     (omega (arith, shared_right before e.key, formed.short)) h.after h.value
 
-entries_bytes : (c : ℕ) (before : List ℕ) (es : List Entry) → c < 256 → All EntryFormed es → All EntryBytes es → Bytes (entries c before es)
+entries_bytes : (c : ℕ) (before : List ℕ) (es : List Entry) → c < 256 → AllByRecursion EntryFormed es → AllByRecursion EntryBytes es → Bytes (entries c before es)
 entries_bytes c before [] code formed h = tt
 entries_bytes c before (e ∷ es) code formed h = joined (entry c before e) (entries c e.key es) (entry_bytes c before e code formed.0 h.0) (entries_bytes c e.key es code formed.1 h.1)
 

@@ -2,7 +2,7 @@
 -- node. Assumes nothing.
 use Rattle.std.proofs.Common.{◌≡◌, ℕ, List, [], ◌∷◌, ◌++◌, length, drop, Some, None, Option, sym, refl, ap, ◌∙◌, append_assoc, arith}
 use mathlib.Core.List.{tail-eq_of_cons-eq as past}
-use Rattle.std.specs.List.{AllByRecursion as All}
+use Rattle.std.specs.List.{AllByRecursion}
 use Rattle.keys.specs.Shared.{shared}
 use Rattle.keys.proofs.Fronts.{shared_rebuilds}
 use Rattle.node.specs.Format.{Entry, Node, head, byte_string, link, link_or_null, entry_parts, entry, entries, encode}
@@ -76,7 +76,7 @@ entry_one c before x y r s fx fy e =
     let k = key_one before x.key y.key h.shares h.rest in
     (λ i. record { key = k i; value = h.value i; after = h.after i }, h.end)
 
-pub entries_one : (c : ℕ) (before : List ℕ) (xs ys : List Entry) (r s : List ℕ) → All EntryLinked xs → All EntryLinked ys → length xs ≡ length ys
+pub entries_one : (c : ℕ) (before : List ℕ) (xs ys : List Entry) (r s : List ℕ) → AllByRecursion EntryLinked xs → AllByRecursion EntryLinked ys → length xs ≡ length ys
     → entries c before xs ++ r ≡ entries c before ys ++ s → (xs ≡ ys) × (r ≡ s)
 entries_one c before [] [] r s fx fy same e = (refl, e)
 entries_one c before [] (y ∷ ys) r s fx fy same e = absurd (omega arith)

@@ -1,6 +1,6 @@
 -- How long encodings are, and that every node fits a block. Assumes nothing.
 use Rattle.std.proofs.Common.{◌≡◌, ℕ, ◌+◌, ◌*◌, ◌≤◌, Bool, true, false, cond, ltb, List, [], ◌∷◌, length, drop, Some, None, Option, arith}
-use Rattle.std.specs.List.{AllByRecursion as All}
+use Rattle.std.specs.List.{AllByRecursion}
 use Rattle.std.proofs.lemmas.List.{length-append, length-drop}
 use Rattle.keys.specs.Shared.{shared}
 use Rattle.node.specs.Format.{Entry, Node, head, link_or_null, entry_parts, entry, entries, encode}
@@ -28,7 +28,7 @@ entry_length c before e formed =
     let k = drop p e.key in
     omega (arith, entry_parts-length c k p e.after e.value, head-length 0x40 (length k), head-length 0x00 p, length-drop p e.key, formed.short, formed.value, link_or_null-length c e.after formed.after)
 
-pub entries-length : (c : ℕ) (before : List ℕ) (es : List Entry) → All EntryFormed es → length (entries c before es) ≤ 159 * length es
+pub entries-length : (c : ℕ) (before : List ℕ) (es : List Entry) → AllByRecursion EntryFormed es → length (entries c before es) ≤ 159 * length es
 entries-length c before [] formed = omega arith
 entries-length c before (e ∷ es) formed =
     let rest = entries-length c e.key es formed.1 in

@@ -14,7 +14,7 @@
 --
 -- That keys rise is no matter of form. Assumes nothing.
 use Rattle.std.specs.Prelude.{◌≡◌, ℕ, ◌<◌, ◌≤◌, Bool, true, ◌&&◌, List, [], ◌∷◌, length, Some, None, Option, ◌==◌, nat_le}
-use Rattle.std.specs.List.{AllByRecursion as All}
+use Rattle.std.specs.List.{AllByRecursion}
 use Rattle.node.specs.Format.{Entry, Node}
 
 abbrev pub Digest : List ℕ → Type 0
@@ -29,7 +29,7 @@ pub record EntryLinked (e : Entry) : Type 0 where
   pub after : Link e.after
 
 pub record Linked (n : Node) : Type 0 where
-  pub each : All EntryLinked n.entries
+  pub each : AllByRecursion EntryLinked n.entries
   pub first : Link n.first
 
 pub record EntryFormed (e : Entry) : Type 0 where
@@ -40,7 +40,7 @@ pub record EntryFormed (e : Entry) : Type 0 where
 
 pub record WellFormed (n : Node) : Type 0 where
   pub few : length n.entries ≤ 64
-  pub each : All EntryFormed n.entries
+  pub each : AllByRecursion EntryFormed n.entries
   pub first : Link n.first
 
 abbrev pub is_digest : List ℕ → Bool
@@ -62,7 +62,7 @@ abbrev pub well_formed : Node → Bool
 well_formed n = nat_le (length n.entries) 64 && (all entry_formed n.entries && is_link n.first)
 
 abbrev pub Bytes : List ℕ → Type 0
-Bytes s = All (λ b. b < 256) s
+Bytes s = AllByRecursion (λ b. b < 256) s
 
 abbrev pub LinkBytes : Option (List ℕ) → Type 0
 LinkBytes None = Unit {0}
@@ -74,5 +74,5 @@ pub record EntryBytes (e : Entry) : Type 0 where
   pub after : LinkBytes e.after
 
 pub record NodeBytes (n : Node) : Type 0 where
-  pub each : All EntryBytes n.entries
+  pub each : AllByRecursion EntryBytes n.entries
   pub first : LinkBytes n.first

@@ -11,7 +11,7 @@
 --
 -- c is the code byte of the digest kind. Assumes nothing.
 use Rattle.std.specs.Prelude.{◌≡◌, ℕ, ◌+◌, ◌<◌, List, ◌∷◌, ◌++◌, length, take, drop, None, Option}
-use Rattle.std.specs.List.{AllByRecursion as All}
+use Rattle.std.specs.List.{AllByRecursion}
 use Rattle.keys.specs.Shared.{shared}
 use Rattle.keys.specs.Size.{Joins}
 use Rattle.node.specs.Format.{Node, closing, entries}
@@ -25,7 +25,7 @@ use Rattle.node_reader.specs.declared.cursor.Cursor.{Cursor}
 -- from the cursor on, the rest of the block s is the rest n of a node
 pub record Rest (c : ℕ) (s : List ℕ) (cursor : Cursor) (n : Node) : Type 0 where
   pub count : cursor.left ≡ length n.entries
-  pub each : All EntryFormed n.entries
+  pub each : AllByRecursion EntryFormed n.entries
   pub first : Link n.first
   pub is : drop cursor.at s ≡ entries c (key_before cursor.last) n.entries ++ closing c n.first
 

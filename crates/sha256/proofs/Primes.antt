@@ -1,6 +1,6 @@
 -- The test of primes decides them, and the numbers that pass it, in order, are the first primes. Assumes nothing.
 use Rattle.std.proofs.Common.{◌≡◌, ℕ, zero, suc, ◌+◌, ◌-◌, ◌%◌, ◌<◌, ◌≤◌, Bool, true, false, cond, not, eqb, ◌∷◌, filter, sym, refl, subst, ⊎_elim, arith}
-use Rattle.std.specs.List.{range_with_len, AllByRecursion as All}
+use Rattle.std.specs.List.{range_with_len, AllByRecursion}
 use Rattle.std.proofs.ByRecursion.{all_kept_by, All-weaker}
 use Rattle.std.proofs.lemmas.Bool.{and_cases, and_parts, both_ways, cases_lt, cases_order, eqb-false, eqb-true, not-false, not-true}
 use Rattle.sha256.specs.Constants.{undivided, prime, first_primes}
@@ -44,11 +44,11 @@ kept_primes (suc n) a p from_two above none = go (prime a) refl (λ q. kept_prim
         (λ r low high is. ⊎_elim (λ (before : r < a). none r low before is) (λ (past : a ≤ r). prime_false a failed (subst Prime (omega arith) is)) (cases_lt r a))
 
 -- no number of a list passes its end
-counting_below : (a n : ℕ) → All (λ x. x < a + n) (range_with_len a n)
+counting_below : (a n : ℕ) → AllByRecursion (λ x. x < a + n) (range_with_len a n)
 counting_below a zero = tt
 counting_below a (suc n) = (omega arith, All-weaker _ _ (λ x h. omega arith) (range_with_len (a + 1) n) (counting_below (a + 1) n))
 
-pub first_primes-below : All (λ p. p < 312) first_primes
+pub first_primes-below : AllByRecursion (λ p. p < 312) first_primes
 first_primes-below = all_kept_by prime (λ p. p < 312) (range_with_len 2 310) (counting_below 2 310)
 
 pub first_primes_first : PrimesAfter 0 first_primes

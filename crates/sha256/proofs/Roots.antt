@@ -1,6 +1,6 @@
 -- The root is the largest number whose power fits, so that the tables have what their rule says. Assumes nothing.
 use Rattle.std.proofs.Common.{◌≡◌, ℕ, zero, suc, ◌+◌, ◌*◌, ◌^◌, ◌<◌, ◌≤◌, Bool, true, false, cond, leb, List, map, length, get_or, take, sym, refl, ap, ◌∙◌, subst, pow-suc, arith}
-use Rattle.std.specs.List.{AllByRecursion as All}
+use Rattle.std.specs.List.{AllByRecursion}
 use Rattle.std.proofs.ByRecursion.{All-get_or}
 use Rattle.std.proofs.lemmas.List.{get_or-map, get_or-take, length-map, length-take}
 use Rattle.std.proofs.lemmas.Bool.{leb-true, leb-false}
@@ -21,7 +21,7 @@ root_largest e n (suc k) so_far fits next = go (leb ((so_far + 2 ^ k) ^ e) n) re
     go false failed step = step so_far fits (leb-false _ _ failed)
 
 -- each of the first k primes ps below a bound has the root that its fraction comes from
-fractions : (e k bound : ℕ) (ps : List ℕ) → PrimesAfter 0 ps → All (λ p. p < bound) ps
+fractions : (e k bound : ℕ) (ps : List ℕ) → PrimesAfter 0 ps → AllByRecursion (λ p. p < bound) ps
     → ((p : ℕ) → p < bound → LargestPower e (p * 2 ^ (32 * e)) (root e (p * 2 ^ (32 * e)))) → RootFractions e (map (fraction e) (take k ps))
 fractions e k bound ps first small largest = record {
   primes = ps;

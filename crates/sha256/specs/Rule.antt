@@ -1,10 +1,10 @@
 -- What the numbers of SHA-256 are, in words of arithmetic.
 --
 --   Prime             a number that only 1 and itself divide
---   PrimesAfter      each number is the first prime after the one before it
---   LargestPower     c is the largest number whose e-th power is at most n
---   RootFraction     a word has the first 32 bits of the fraction of an e-th root
---   RootFractions    words that have them of the first primes
+--   PrimesAfter       each number is the first prime after the one before it
+--   LargestPower      c is the largest number whose e-th power is at most n
+--   RootFraction      a word has the first 32 bits of the fraction of an e-th root
+--   RootFractions     words that have them of the first primes
 --
 -- Assumes nothing.
 use Rattle.std.specs.Prelude.{◌≡◌, ℕ, ◌+◌, ◌*◌, ◌%◌, ◌^◌, ◌<◌, ◌≤◌, List, [], ◌∷◌, length, ◌≢◌, slice_index}

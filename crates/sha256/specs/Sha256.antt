@@ -9,7 +9,7 @@
 -- Assumes nothing.
 use Rattle.std.specs.Prelude.{◌≡◌, ℕ, ◌/◌, ◌^◌, ◌<◌, List, [], ◌∷◌, length, slice_index, refl}
 use Rattle.std.proofs.Common.{mod-lt, lit<}
-use Rattle.std.specs.List.{flat_map, AllByRecursion as All}
+use Rattle.std.specs.List.{flat_map, AllByRecursion}
 use Rattle.digest.specs.Kind.{Kind}
 use Rattle.sha256.specs.declared.state.State.{State}
 use Rattle.sha256.specs.Constants.{start_words}
@@ -46,12 +46,12 @@ pub sha256_length : (message : List ℕ) → length (sha256_hash message) ≡ 32
 unfolding sha256_hash state_bytes
 sha256_length message = refl
 
-words_below : (words : List ℕ) → All (λ b. b < 256) (flat_map word_bytes words)
+words_below : (words : List ℕ) → AllByRecursion (λ b. b < 256) (flat_map word_bytes words)
 words_below [] = tt
 words_below (x ∷ words) =
     (mod-lt (x / 2 ^ 24) (lit< tt), (mod-lt (x / 2 ^ 16) (lit< tt), (mod-lt (x / 2 ^ 8) (lit< tt), (mod-lt x (lit< tt), words_below words))))
 
-pub sha256_bytes : (message : List ℕ) → All (λ b. b < 256) (sha256_hash message)
+pub sha256_bytes : (message : List ℕ) → AllByRecursion (λ b. b < 256) (sha256_hash message)
 unfolding sha256_hash state_bytes
 sha256_bytes message = words_below (state_words (compress_all start (blocks (padded message))))
 

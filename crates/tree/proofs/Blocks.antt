@@ -1,7 +1,7 @@
 -- The nodes of a map that is not crowded are well formed, and its blocks fit a store; so do those of a collision. Assumes nothing.
 use Rattle.std.proofs.Common.{ℕ, zero, suc, ◌≤◌, List, [], ◌∷◌, map, length, arith}
 use mathlib.Core.Logic.{⊎_map}
-use Rattle.std.specs.List.{AllByRecursion as All}
+use Rattle.std.specs.List.{AllByRecursion}
 use Rattle.std.proofs.ByRecursion.{All-append, all-has, All-map, All-weaker}
 use Rattle.digest.specs.Kind.{Kind}
 use Rattle.node.specs.Format.{Node}
@@ -18,7 +18,7 @@ use Rattle.tree.proofs.Widths.{all_narrow, narrow_few}
 
 -- all of a well-formed node but the number of its entries
 record Sound (n : Node) : Type 0 where
-  each : All EntryFormed n.entries
+  each : AllByRecursion EntryFormed n.entries
   first : Link n.first
   bytes : NodeBytes n
 
@@ -35,26 +35,26 @@ module _ (κ : Kind) where
   first_formed n (end g) = link_formed n g
   first_formed n (more g x c) = link_formed n g
 
-  entries_formed : (n : ℕ) (c : Row Map Item) → Parted Keyed Keyed c → All EntryFormed (entries_of (map_row (below κ n) (leaf κ) c))
+  entries_formed : (n : ℕ) (c : Row Map Item) → Parted Keyed Keyed c → AllByRecursion EntryFormed (entries_of (map_row (below κ n) (leaf κ) c))
   entries_formed n (end g) h = tt
   entries_formed n (more g x c) h =
       (record { some = h.1.sized.some; short = h.1.sized.short; value = κ.hash_length x.value; after = (first_formed n c).0 }, entries_formed n c h.2)
 
-  entries_of_bytes : (n : ℕ) (c : Row Map Item) → Parted Keyed Keyed c → All EntryBytes (entries_of (map_row (below κ n) (leaf κ) c))
+  entries_of_bytes : (n : ℕ) (c : Row Map Item) → Parted Keyed Keyed c → AllByRecursion EntryBytes (entries_of (map_row (below κ n) (leaf κ) c))
   entries_of_bytes n (end g) h = tt
   entries_of_bytes n (more g x c) h = (record { key = h.1.bytes; value = κ.hash_bytes x.value; after = (first_formed n c).1 }, entries_of_bytes n c h.2)
 
-  row_sound : (n : ℕ) (m : Map) → All Keyed m → Sound (node_of (row κ n m))
+  row_sound : (n : ℕ) (m : Map) → AllByRecursion Keyed m → Sound (node_of (row κ n m))
   row_sound n m h =
       let c = cut κ n m in
       let parts = cut_parted (at κ n) Keyed Keyed Keyed (λ x _ k. k) (λ x _ k. k) m h in
       record { each = entries_formed n c parts; first = (first_formed n c).0; bytes = record { each = entries_of_bytes n c parts; first = (first_formed n c).1 } }
 
-  gaps_sound : (f : Map → List Placed) → ((g : Map) → All Keyed g → All (λ t. Sound t.node) (f g)) → (c : Row Map Item) → Parted Keyed Keyed c → All (λ t. Sound t.node) (over_gaps f c)
+  gaps_sound : (f : Map → List Placed) → ((g : Map) → AllByRecursion Keyed g → AllByRecursion (λ t. Sound t.node) (f g)) → (c : Row Map Item) → Parted Keyed Keyed c → AllByRecursion (λ t. Sound t.node) (over_gaps f c)
   gaps_sound f each (end g) h = each g h
   gaps_sound f each (more g x c) h = All-append (λ t. Sound t.node) (f g) (over_gaps f c) (each g h.0) (gaps_sound f each c h.2)
 
-  below_sound : (n : ℕ) (m : Map) → All Keyed m → All (λ t. Sound t.node) (nodes_below κ n m)
+  below_sound : (n : ℕ) (m : Map) → AllByRecursion Keyed m → AllByRecursion (λ t. Sound t.node) (nodes_below κ n m)
   below_sound zero m h = tt
   below_sound (suc n) [] h = tt
   below_sound (suc n) (x ∷ m) h = (
@@ -62,7 +62,7 @@ module _ (κ : Kind) where
     gaps_sound (nodes_below κ n) (below_sound n) (cut κ n (x ∷ m)) (cut_parted (at κ n) Keyed Keyed Keyed (λ x _ k. k) (λ x _ k. k) (x ∷ m) h),
   )
 
-  nodes_sound : (m : Map) → All Keyed m → All (λ t. Sound t.node) (nodes κ m)
+  nodes_sound : (m : Map) → AllByRecursion Keyed m → AllByRecursion (λ t. Sound t.node) (nodes κ m)
   unfolding nodes
   nodes_sound m h =
       let n = top κ m in
@@ -81,13 +81,13 @@ fitting κ t sound few =
       block = record { short = encode_fits κ.code t.node formed; bytes = encode_bytes κ.code t.node (omega (arith, κ.code_below)) formed sound.bytes };
     }
 
-nodes_fitting : (κ : Kind) (m : Map) → Kept κ m → All (Fitting κ) (nodes κ m)
+nodes_fitting : (κ : Kind) (m : Map) → Kept κ m → AllByRecursion (Fitting κ) (nodes κ m)
 unfolding crowded
 nodes_fitting κ m kept =
     both-all (λ t. Sound t.node) (λ t. length t.node.entries ≤ 64) (Fitting κ) (fitting κ) (nodes κ m) (nodes_sound κ m kept.is_map.keys)
     (All-weaker _ (λ t. length t.node.entries ≤ 64) narrow_few (nodes κ m) (all_narrow (nodes κ m) kept.narrow))
 
-blocks_fit : (κ : Kind) (m : Map) → Kept κ m → All IsBlock (blocks κ m)
+blocks_fit : (κ : Kind) (m : Map) → Kept κ m → AllByRecursion IsBlock (blocks κ m)
 unfolding blocks
 blocks_fit κ m kept =
     All-append IsBlock (map (λ t. bytes_of κ t.node) (nodes κ m)) (map (λ x. x.value) m)

@@ -3,7 +3,7 @@ use Rattle.std.proofs.Common.{◌≡◌, ℕ, zero, suc, ◌<◌, ◌≢◌, ◌
 use mathlib.Core.List.{List-discrete, head-eq_of_cons-eq, tail-eq_of_cons-eq, cons≢nil}
 use mathlib.Core.Logic.{⊎_map}
 use native.Mathlib.Decide.{ℕ_discrete}
-use Rattle.std.specs.List.{ContainsAt as Has, AllByRecursion as All}
+use Rattle.std.specs.List.{ContainsAt as Has, AllByRecursion}
 use Rattle.std.proofs.ByRecursion.{all_has_itself, has_append_left, has_append_right}
 use Rattle.std.proofs.lemmas.List.{map-append}
 use Rattle.digest.specs.Kind.{Kind}
@@ -46,7 +46,7 @@ first_linked : (κ : Kind) (n : ℕ) (c : Row Map Item) → Link (first_gap (map
 first_linked κ n (end g) = below_linked κ n g
 first_linked κ n (more g x c) = below_linked κ n g
 
-entries_linked : (κ : Kind) (n : ℕ) (c : Row Map Item) → All EntryLinked (entries_of (map_row (below κ n) (leaf κ) c))
+entries_linked : (κ : Kind) (n : ℕ) (c : Row Map Item) → AllByRecursion EntryLinked (entries_of (map_row (below κ n) (leaf κ) c))
 entries_linked κ n (end g) = tt
 entries_linked κ n (more g x c) = (record { value = κ.hash_length x.value; after = first_linked κ n c }, entries_linked κ n c)
 

@@ -1,6 +1,6 @@
 -- Maps whose keys are all below a layer, and the highest layer of a map. Assumes nothing.
 use Rattle.std.proofs.Common.{◌≡◌, ℕ, suc, ◌<◌, ◌≤◌, max, Bool, true, false, eqb, [], ◌∷◌, ◌++◌, refl, subst, arith}
-use Rattle.std.specs.List.{AllByRecursion as All}
+use Rattle.std.specs.List.{AllByRecursion}
 use Rattle.std.proofs.ByRecursion.{All-append, All-weaker}
 use Rattle.std.proofs.lemmas.Bool.{eqb-true}
 use Rattle.digest.specs.Kind.{Kind}
@@ -12,7 +12,7 @@ use Rattle.tree.specs.Tree.{at, cut, below, row, top}
 use Rattle.tree.proofs.Rows.{cut_parted, flat-cut, parted_first, parted_last}
 
 abbrev pub Under : Kind → ℕ → Map → Type 0
-Under κ n m = All (λ x. layer κ x.key < n) m
+Under κ n m = AllByRecursion (λ x. layer κ x.key < n) m
 
 pub at-below : (m n : ℕ) → eqb m n ≡ false → m < suc n → m < n
 at-below m n t h = grind arith

@@ -1,6 +1,6 @@
 -- What the nodes of a tree hold: those of a layer hold the keys of that layer, in their order. Assumes nothing.
 use Rattle.std.proofs.Common.{◌≡◌, ℕ, zero, suc, ◌<◌, ◌≤◌, max, Bool, true, false, cond, eqb, ◌≢◌, ◌⊎◌, List, [], ◌∷◌, ◌++◌, map, Option, sym, refl, ap, ◌∙◌, subst, inl, inr, append_assoc, append-nil, arith}
-use Rattle.std.specs.List.{ContainsAt as Has, AllByRecursion as All}
+use Rattle.std.specs.List.{ContainsAt as Has, AllByRecursion}
 use Rattle.std.proofs.ByRecursion.{All-append, all_has_itself, All-weaker, has_append_right}
 use Rattle.std.proofs.lemmas.List.{map-append}
 use Rattle.std.proofs.lemmas.Bool.{eqb-true, eqb-false, ne_eqb}
@@ -57,18 +57,18 @@ row-leaves κ f n (x ∷ m) = go (at κ n x) (row-leaves κ f n m)
 
 -- the nodes below a layer are of lower layers
 
-gaps_low : (N : ℕ) (f : Map → List Placed) → ((g : Map) → All (λ t. t.layer < N) (f g)) → (c : Row Map Item) → All (λ t. t.layer < N) (over_gaps f c)
+gaps_low : (N : ℕ) (f : Map → List Placed) → ((g : Map) → AllByRecursion (λ t. t.layer < N) (f g)) → (c : Row Map Item) → AllByRecursion (λ t. t.layer < N) (over_gaps f c)
 gaps_low N f low (end g) = low g
 gaps_low N f low (more g x c) = All-append (λ t. t.layer < N) (f g) (over_gaps f c) (low g) (gaps_low N f low c)
 
-below_low : (κ : Kind) (N : ℕ) (m : Map) → All (λ t. t.layer < N) (nodes_below κ N m)
+below_low : (κ : Kind) (N : ℕ) (m : Map) → AllByRecursion (λ t. t.layer < N) (nodes_below κ N m)
 below_low κ zero m = tt
 below_low κ (suc N) [] = tt
 below_low κ (suc N) (x ∷ m) =
     let gaps = gaps_low N (nodes_below κ N) (below_low κ N) (cut κ N (x ∷ m)) in
     (omega arith, All-weaker (λ t. t.layer < N) (λ t. t.layer < suc N) (λ t l. omega arith) (over_gaps (nodes_below κ N) (cut κ N (x ∷ m))) gaps)
 
-none_on : (N : ℕ) (ts : List Placed) → All (λ t. t.layer < N) ts → on_layer N ts ≡ []
+none_on : (N : ℕ) (ts : List Placed) → AllByRecursion (λ t. t.layer < N) ts → on_layer N ts ≡ []
 none_on N [] low = refl
 none_on N (t ∷ ts) low = rw (ne_eqb t.layer N (λ e. omega (arith, low.0)), none_on N ts low.1)
 

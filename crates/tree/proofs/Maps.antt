@@ -1,6 +1,6 @@
 -- The laws of maps. Assumes nothing.
 use Rattle.std.proofs.Common.{◌≡◌, ℕ, Bool, true, false, cond, ◌≢◌, List, [], ◌∷◌, Some, None, sym, refl, ap, ◌∙◌, subst, ⊎_elim, arith}
-use Rattle.std.specs.List.{ContainsAt as Has, AllByRecursion as All}
+use Rattle.std.specs.List.{ContainsAt as Has, AllByRecursion}
 use Rattle.std.proofs.ByRecursion.{all-has, all_has_itself, All-weaker, has_append_right}
 use Rattle.std.proofs.lemmas.Bool.{cases_Bool, cond_both}
 use Rattle.std.proofs.lemmas.Bool.Decides.{nat_tests}
@@ -12,17 +12,17 @@ use Rattle.tree.proofs.Rows.{both-all}
 
 -- what is known of a new item and of every old one
 
-all_insert : (P : Item → Type 0) (k v : List ℕ) (m : Map) → P (record { key = k; value = v }) → All P m → All P (insert k v m)
+all_insert : (P : Item → Type 0) (k v : List ℕ) (m : Map) → P (record { key = k; value = v }) → AllByRecursion P m → AllByRecursion P (insert k v m)
 all_insert P k v [] p h = (p, tt)
 all_insert P k v (x ∷ m) p h =
-    cond_both (before x.key k) _ _ (All P)
+    cond_both (before x.key k) _ _ (AllByRecursion P)
     (λ _. (h.0, all_insert P k v m p h.1))
-    (λ _. cond_both (before k x.key) _ _ (All P) (λ _. (p, h)) (λ _. (p, h.1)))
+    (λ _. cond_both (before k x.key) _ _ (AllByRecursion P) (λ _. (p, h)) (λ _. (p, h.1)))
 
-all-delete : (P : Item → Type 0) (k : List ℕ) (m : Map) → All P m → All P (delete k m)
+all-delete : (P : Item → Type 0) (k : List ℕ) (m : Map) → AllByRecursion P m → AllByRecursion P (delete k m)
 all-delete P k [] h = tt
 all-delete P k (x ∷ m) h =
-    cond_both (before x.key k) _ _ (All P) (λ _. (h.0, all-delete P k m h.1)) (λ _. cond_both (before k x.key) _ _ (All P) (λ _. h) (λ _. h.1))
+    cond_both (before x.key k) _ _ (AllByRecursion P) (λ _. (h.0, all-delete P k m h.1)) (λ _. cond_both (before k x.key) _ _ (AllByRecursion P) (λ _. h) (λ _. h.1))
 
 -- rising lists stay rising
 
@@ -164,7 +164,7 @@ found k v (x ∷ m) h = go (before x.key k) refl (before k x.key) refl h (found 
         let same : x ≡ record { key = k; value = v } = λ i. record { key = key i; value = value i } in
         subst (λ (y : Item). Has (x ∷ m) y) same (all_has_itself (x ∷ m)).0
 
-listed-all : (m : Map) → Rising m → All (λ x. lookup x.key m ≡ Some x.value) m
+listed-all : (m : Map) → Rising m → AllByRecursion (λ x. lookup x.key m ≡ Some x.value) m
 listed-all [] r = tt
 listed-all (y ∷ m) r = (
   rw (before_self y.key),

@@ -1,6 +1,6 @@
 -- Where a key is or belongs in a map, and in the node at a layer. Assumes nothing.
 use Rattle.std.proofs.Common.{◌≡◌, ℕ, Bool, true, false, not, List, [], ◌∷◌, ◌++◌, Option, refl, subst}
-use Rattle.std.specs.List.{AllByRecursion as All}
+use Rattle.std.specs.List.{AllByRecursion}
 use Rattle.keys.specs.Order.{before}
 use Rattle.keys.proofs.Orders.{before_self, before_neither, before_one_way}
 use Rattle.digest.specs.Kind.{Kind}
@@ -15,7 +15,7 @@ use Rattle.tree.proofs.Splits.{left_gap, right_gap, keys_in, row-append, row_at,
 
 -- every key of the map comes before k
 abbrev pub AllBefore : List ℕ → Map → Type 0
-AllBefore k m = All (λ x. before x.key k ≡ true) m
+AllBefore k m = AllByRecursion (λ x. before x.key k ≡ true) m
 
 -- the two parts of a map around k
 pub record Around (k : List ℕ) (a b : Map) : Type 0 where

@@ -2,7 +2,7 @@
 use Rattle.std.proofs.Common.{◌≡◌, ℕ, suc, ◌-◌, ◌<◌, ◌≤◌, max, Bool, true, false, ◌⊎◌, List, [], ◌∷◌, ◌++◌, map, length, sym, refl, ap, ◌∙◌, subst, inl, inr, arith}
 use mathlib.Core.List.Sublistᴰ
 use mathlib.Core.List.{Sublistᴰ}
-use Rattle.std.specs.List.{ContainsAt as Has, AllByRecursion as All}
+use Rattle.std.specs.List.{ContainsAt as Has, AllByRecursion}
 use Rattle.std.proofs.ByRecursion.{All-append, all-has, all_has_itself, All-weaker}
 use Rattle.std.proofs.lemmas.Bool.{cases_lt}
 use Rattle.digest.specs.Kind.{Kind}
@@ -26,11 +26,11 @@ use Rattle.tree.proofs.Tops.{up, up_is, raise-path, insert_above_root, delete-to
 record RebuildsAll (κ : Kind) (old changed : Map) (new : Rebuilt) : Type 1 where
   root : new.root ≡ root_node κ changed
   order : Sublistᴰ (handed new) (nodes_up κ changed)
-  sound : (P : Placed → Type 0) → All P (nodes κ changed) → All P (handed new)
-  complete : (P : Placed → Type 0) → All P (handed new) → All P (nodes κ old) → All P (nodes κ changed)
+  sound : (P : Placed → Type 0) → AllByRecursion P (nodes κ changed) → AllByRecursion P (handed new)
+  complete : (P : Placed → Type 0) → AllByRecursion P (handed new) → AllByRecursion P (nodes κ old) → AllByRecursion P (nodes κ changed)
 
 -- every element that the list has
-all_from_has : {X : Type 0} (P : X → Type 0) (xs : List X) → ((x : X) → Has xs x → P x) → All P xs
+all_from_has : {X : Type 0} (P : X → Type 0) (xs : List X) → ((x : X) → Has xs x → P x) → AllByRecursion P xs
 all_from_has P xs h = All-weaker (Has xs) P h xs (all_has_itself xs)
 
 rebuilds : (κ : Kind) (old changed : Map) (new : Rebuilt) → RebuildsAll κ old changed new → Rebuilds κ old changed new
@@ -58,37 +58,37 @@ rebuilds κ old changed new r = record {
 -- what is rebuilt from a root and the layers below it
 
 module _ (P : Placed → Type 0) (n : ℕ) (r : Links) (layers : List (List Links)) (long : length layers ≡ n) where
-  rebuilt_from : P (placed_at n r) → All P (upward layers) → All P (handed (rebuilt r layers))
+  rebuilt_from : P (placed_at n r) → AllByRecursion P (upward layers) → AllByRecursion P (handed (rebuilt r layers))
   rebuilt_from p h = All-append P (upward layers) (placed_at (length layers) r ∷ []) h (rw long p, tt)
 
-  rebuilt_parts : All P (handed (rebuilt r layers)) → P (placed_at n r) × All P (upward layers)
+  rebuilt_parts : AllByRecursion P (handed (rebuilt r layers)) → P (placed_at n r) × AllByRecursion P (upward layers)
   rebuilt_parts h = let parts = all_parts P (upward layers) (placed_at (length layers) r ∷ []) h in (rw long at parts.1.0, parts.0)
 
 -- the nodes of a tree, and those below its highest layer
 
-nodes_in : (κ : Kind) (P : Placed → Type 0) (m : Map) → All P (nodes κ m) → All P (nodes_below κ (suc (top κ m)) m)
+nodes_in : (κ : Kind) (P : Placed → Type 0) (m : Map) → AllByRecursion P (nodes κ m) → AllByRecursion P (nodes_below κ (suc (top κ m)) m)
 unfolding nodes
 nodes_in κ P [] h = tt
 nodes_in κ P (x ∷ m) h = h
 
-in_nodes : (κ : Kind) (P : Placed → Type 0) (m : Map) → P (placed_at (top κ m) (row κ (top κ m) m)) → All P (nodes_below κ (suc (top κ m)) m) → All P (nodes κ m)
+in_nodes : (κ : Kind) (P : Placed → Type 0) (m : Map) → P (placed_at (top κ m) (row κ (top κ m) m)) → AllByRecursion P (nodes_below κ (suc (top κ m)) m) → AllByRecursion P (nodes κ m)
 unfolding nodes
 in_nodes κ P [] p h = (p, tt)
 in_nodes κ P (x ∷ m) p h = h
 
-own_node : (κ : Kind) (P : Placed → Type 0) (m : Map) → All P (nodes κ m) → P (placed_at (top κ m) (row κ (top κ m) m))
+own_node : (κ : Kind) (P : Placed → Type 0) (m : Map) → AllByRecursion P (nodes κ m) → P (placed_at (top κ m) (row κ (top κ m) m))
 unfolding nodes
 own_node κ P m h = h.0
 
-gap_all : (κ : Kind) (P : Placed → Type 0) (m : Map) → All P (nodes κ m) → All P (over_gaps (nodes_below κ (top κ m)) (cut κ (top κ m) m))
+gap_all : (κ : Kind) (P : Placed → Type 0) (m : Map) → AllByRecursion P (nodes κ m) → AllByRecursion P (over_gaps (nodes_below κ (top κ m)) (cut κ (top κ m) m))
 unfolding nodes
 gap_all κ P m h = h.1
 
 -- what is rebuilt is a tree, if its layers come in order and hold nodes of the tree, and with those that were there they hold all
 rebuilt-all : (κ : Kind) (old changed : Map) (layers : List (List Links)) → length layers ≡ top κ changed
     → Sublistᴰ (upward layers) (by_layer (top κ changed) (over_gaps (nodes_below κ (top κ changed)) (cut κ (top κ changed) changed)))
-    → ((P : Placed → Type 0) → All P (nodes κ changed) → All P (upward (single (row κ (top κ changed) changed) ∷ layers)))
-    → ((P : Placed → Type 0) → P (root_node κ changed) → All P (upward (single (row κ (top κ changed) changed) ∷ layers)) → All P (nodes κ old) → All P (nodes κ changed))
+    → ((P : Placed → Type 0) → AllByRecursion P (nodes κ changed) → AllByRecursion P (upward (single (row κ (top κ changed) changed) ∷ layers)))
+    → ((P : Placed → Type 0) → P (root_node κ changed) → AllByRecursion P (upward (single (row κ (top κ changed) changed) ∷ layers)) → AllByRecursion P (nodes κ old) → AllByRecursion P (nodes κ changed))
     → RebuildsAll κ old changed (rebuilt (row κ (top κ changed) changed) layers)
 unfolding nodes
 rebuilt-all κ old changed layers long order sound complete =
@@ -117,8 +117,8 @@ raised κ x m n e =
 -- an insert, from the path that it gives
 grown-all : (κ : Kind) (old changed : Map) (p : ForkedPath) → p.upper ≡ row κ (top κ changed) changed ∷ rest_of p.upper → length (layers_of p) ≡ suc (top κ changed)
     → Sublistᴰ (upward (rest_layers p)) (by_layer (top κ changed) (over_gaps (nodes_below κ (top κ changed)) (cut κ (top κ changed) changed)))
-    → ((P : Placed → Type 0) → All P (nodes κ changed) → All P (upward (layers_of p)))
-    → ((P : Placed → Type 0) → All P (upward (layers_of p)) → All P (nodes κ old) → All P (nodes_below κ (suc (top κ changed)) changed))
+    → ((P : Placed → Type 0) → AllByRecursion P (nodes κ changed) → AllByRecursion P (upward (layers_of p)))
+    → ((P : Placed → Type 0) → AllByRecursion P (upward (layers_of p)) → AllByRecursion P (nodes κ old) → AllByRecursion P (nodes_below κ (suc (top κ changed)) changed))
     → RebuildsAll κ old changed (grown p.upper p.lower)
 grown-all κ old changed p head long order sound complete =
     let r = row κ (top κ changed) changed in
@@ -126,8 +126,8 @@ grown-all κ old changed p head long order sound complete =
     let is : grown p.upper p.lower ≡ rebuilt r (rest_layers p) = ap (λ (u : List Links). grown u p.lower) head in
     let short : length (rest_layers p) ≡ top κ changed = omega (arith, ap length all) in
     subst (RebuildsAll κ old changed) (sym is)
-    (rebuilt-all κ old changed (rest_layers p) short order (λ P h. subst (λ (l : List (List Links)). All P (upward l)) all (sound P h))
-    (λ P own new old-all. in_nodes κ P changed own (complete P (subst (λ (l : List (List Links)). All P (upward l)) (sym all) new) old-all)))
+    (rebuilt-all κ old changed (rest_layers p) short order (λ P h. subst (λ (l : List (List Links)). AllByRecursion P (upward l)) all (sound P h))
+    (λ P own new old-all. in_nodes κ P changed own (complete P (subst (λ (l : List (List Links)). AllByRecursion P (upward l)) (sym all) new) old-all)))
 
 -- the layers of the parts of a map
 module _ (κ : Kind) (n : ℕ) (a : Map) (x : Item) (b : Map) (u : Under κ n (a ++ (x ∷ b))) where
@@ -149,25 +149,25 @@ module _ (κ : Kind) (a : Map) (x : Item) (b : Map) (s : Around x.key a b) where
       insert_new κ x (suc N) a b s (under_before κ (suc N) a x b u) (under_after κ (suc N) a x b u) (under_own κ (suc N) a x b u)
 
   new-complete : (P : Placed → Type 0) → let N = top κ (a ++ (x ∷ b)) in
-      All P (upward (layers_of (forked_path κ (suc N) x.key (a ++ (x ∷ b))))) → All P (nodes κ (a ++ b)) → All P (nodes_below κ (suc N) (a ++ (x ∷ b)))
+      AllByRecursion P (upward (layers_of (forked_path κ (suc N) x.key (a ++ (x ∷ b))))) → AllByRecursion P (nodes κ (a ++ b)) → AllByRecursion P (nodes_below κ (suc N) (a ++ (x ∷ b)))
   new-complete P new old = go (cases_lt (top κ (a ++ b)) (top κ (a ++ (x ∷ b))))
     where
-      go : (top κ (a ++ b) < top κ (a ++ (x ∷ b))) ⊎ (top κ (a ++ (x ∷ b)) ≤ top κ (a ++ b)) → All P (nodes_below κ (suc (top κ (a ++ (x ∷ b)))) (a ++ (x ∷ b)))
+      go : (top κ (a ++ b) < top κ (a ++ (x ∷ b))) ⊎ (top κ (a ++ (x ∷ b)) ≤ top κ (a ++ b)) → AllByRecursion P (nodes_below κ (suc (top κ (a ++ (x ∷ b)))) (a ++ (x ∷ b)))
       go (inl rises) =
           let t = top κ (a ++ b) in
           let j = top κ (a ++ (x ∷ b)) - suc t in
           let high : up j (suc t) ≡ top κ (a ++ (x ∷ b)) = omega (arith, up_is j (suc t)) in
           let own : layer κ x.key ≡ up j (suc t) = omega (arith, top-insert κ a x b) in
           let u = under_top κ (a ++ b) in
-          subst (λ n. All P (nodes_below κ (suc n) (a ++ (x ∷ b)))) high
+          subst (λ n. AllByRecursion P (nodes_below κ (suc n) (a ++ (x ∷ b)))) high
           (insert_above_root κ P j (suc t) a x b s (under_left κ (suc t) a b u) (under_right κ (suc t) a b u) own
-          (subst (λ n. All P (upward (layers_of (forked_path κ (suc n) x.key (a ++ (x ∷ b)))))) (sym high) new) (nodes_in κ P (a ++ b) old))
+          (subst (λ n. AllByRecursion P (upward (layers_of (forked_path κ (suc n) x.key (a ++ (x ∷ b)))))) (sym high) new) (nodes_in κ P (a ++ b) old))
       go (inr stays) =
           let n = top κ (a ++ (x ∷ b)) in
           let same : top κ (a ++ b) ≡ n = omega (arith, top-insert κ a x b) in
           let u = under_top κ (a ++ (x ∷ b)) in
           insert_complete κ P (suc n) a x b s (under_before κ (suc n) a x b u) (under_after κ (suc n) a x b u) (under_own κ (suc n) a x b u) new
-          (subst (λ n. All P (nodes_below κ (suc n) (a ++ b))) same (nodes_in κ P (a ++ b) old))
+          (subst (λ n. AllByRecursion P (nodes_below κ (suc n) (a ++ b))) same (nodes_in κ P (a ++ b) old))
 
   new_key : RebuildsAll κ (a ++ b) (a ++ (x ∷ b)) (insert_path κ x (path κ (suc (top κ (a ++ b))) x.key (a ++ b)))
   unfolding insert_path
@@ -198,7 +198,7 @@ module _ (κ : Kind) (a : Map) (x y : Item) (b : Map) (e : y.key ≡ x.key) (s :
       rw (raised κ x (a ++ (y ∷ b)) N (omega (arith, same_top)), insert_known κ x (suc N) a y b e s ua ub own)
       (grown-all κ (a ++ (y ∷ b)) (a ++ (x ∷ b)) (known κ (suc N) a x b) known-head (known_layers κ (suc N) a x b s own)
       (replaced_order κ N a x b s own) (λ P h. known_sound κ P (suc N) a x b s own (nodes_in κ P m h))
-      (λ P new old. known_complete κ P (suc N) a x y b e s ua ub own new (subst (λ n. All P (nodes_below κ (suc n) (a ++ (y ∷ b)))) same_top (nodes_in κ P (a ++ (y ∷ b)) old))))
+      (λ P new old. known_complete κ P (suc N) a x y b e s ua ub own new (subst (λ n. AllByRecursion P (nodes_below κ (suc n) (a ++ (y ∷ b)))) same_top (nodes_in κ P (a ++ (y ∷ b)) old))))
 
 pub insert_law : (κ : Kind) → InsertLaw κ
 insert_law κ k v m r = go m (locate k m r)
@@ -209,7 +209,7 @@ insert_law κ k v m r = go m (locate k m r)
 
 -- what a delete leaves of a path
 shrunk-all : (κ : Kind) (n : ℕ) (k : List ℕ) (old changed : Map) → Under κ n changed
-    → ((P : Placed → Type 0) → All P (upward (map single (path κ (suc (top κ changed)) k changed))) → All P (nodes κ old) → All P (nodes_below κ (suc (top κ changed)) changed))
+    → ((P : Placed → Type 0) → AllByRecursion P (upward (map single (path κ (suc (top κ changed)) k changed))) → AllByRecursion P (nodes κ old) → AllByRecursion P (nodes_below κ (suc (top κ changed)) changed))
     → RebuildsAll κ old changed (shrunk (path κ n k changed))
 shrunk-all κ n k old changed u complete =
     let N = top κ changed in
@@ -223,10 +223,10 @@ shrunk-all κ n k old changed u complete =
 
 -- a key that is there
 module _ (κ : Kind) (k : List ℕ) (a : Map) (x : Item) (b : Map) (e : x.key ≡ k) (s : Around k a b) where
-  less_complete : (P : Placed → Type 0) → All P (upward (map single (path κ (suc (top κ (a ++ b))) k (a ++ b)))) → All P (nodes κ (a ++ (x ∷ b))) → All P (nodes_below κ (suc (top κ (a ++ b))) (a ++ b))
+  less_complete : (P : Placed → Type 0) → AllByRecursion P (upward (map single (path κ (suc (top κ (a ++ b))) k (a ++ b)))) → AllByRecursion P (nodes κ (a ++ (x ∷ b))) → AllByRecursion P (nodes_below κ (suc (top κ (a ++ b))) (a ++ b))
   less_complete P new old = go (cases_lt (top κ (a ++ b)) (top κ (a ++ (x ∷ b))))
     where
-      go : (top κ (a ++ b) < top κ (a ++ (x ∷ b))) ⊎ (top κ (a ++ (x ∷ b)) ≤ top κ (a ++ b)) → All P (nodes_below κ (suc (top κ (a ++ b))) (a ++ b))
+      go : (top κ (a ++ b) < top κ (a ++ (x ∷ b))) ⊎ (top κ (a ++ (x ∷ b)) ≤ top κ (a ++ b)) → AllByRecursion P (nodes_below κ (suc (top κ (a ++ b))) (a ++ b))
       go (inl falls) =
           let t = top κ (a ++ b) in
           let j = top κ (a ++ (x ∷ b)) - suc t in
@@ -234,13 +234,13 @@ module _ (κ : Kind) (k : List ℕ) (a : Map) (x : Item) (b : Map) (e : x.key �
           let own : layer κ x.key ≡ up j (suc t) = omega (arith, top-insert κ a x b) in
           let u = under_top κ (a ++ b) in
           delete-top κ P j (suc t) k a x b s (under_left κ (suc t) a b u) (under_right κ (suc t) a b u) own new
-          (subst (λ n. All P (nodes_below κ (suc n) (a ++ (x ∷ b)))) (sym high) (nodes_in κ P (a ++ (x ∷ b)) old))
+          (subst (λ n. AllByRecursion P (nodes_below κ (suc n) (a ++ (x ∷ b)))) (sym high) (nodes_in κ P (a ++ (x ∷ b)) old))
       go (inr stays) =
           let t = top κ (a ++ b) in
           let same : top κ (a ++ (x ∷ b)) ≡ t = omega (arith, top-insert κ a x b) in
           let u = under_top κ (a ++ b) in
           delete_complete κ P (suc t) k a x b s (under_left κ (suc t) a b u) (under_right κ (suc t) a b u) new
-          (subst (λ n. All P (nodes_below κ (suc n) (a ++ (x ∷ b)))) same (nodes_in κ P (a ++ (x ∷ b)) old))
+          (subst (λ n. AllByRecursion P (nodes_below κ (suc n) (a ++ (x ∷ b)))) same (nodes_in κ P (a ++ (x ∷ b)) old))
 
   less_key : RebuildsAll κ (a ++ (x ∷ b)) (a ++ b) (delete_path κ k (forked_path κ (suc (top κ (a ++ (x ∷ b)))) k (a ++ (x ∷ b))))
   unfolding delete_path

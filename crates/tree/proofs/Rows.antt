@@ -1,6 +1,6 @@
 -- Rows: what a cut, a meet and a graft make of each other, and of the places in them. Assumes nothing.
 use Rattle.std.proofs.Common.{◌≡◌, ℕ, zero, suc, Bool, true, false, List, [], ◌∷◌, ◌++◌, sym, refl, ap, ◌∙◌, append-nil}
-use Rattle.std.specs.List.{AllByRecursion as All}
+use Rattle.std.specs.List.{AllByRecursion}
 use Rattle.tree.specs.Laws.{Parted}
 use Rattle.tree.specs.Row.{Row, end, more, prepend, cut_by, flat, map_row, count, first_gap, last_gap, gap_at, set_first, meet, graft, front, back, relink, omit, replace}
 
@@ -77,20 +77,20 @@ module _ {X : Type 0} (test : X → Bool) (P Q R : X → Type 0) (parts : (x : X
   prepend_parted false x (end g) e h p = (stays x e h, p)
   prepend_parted false x (more g y r) e h p = ((stays x e h, p.0), p.1, p.2)
 
-  pub cut_parted : (m : List X) → All R m → Parted P Q (cut_by test m)
+  pub cut_parted : (m : List X) → AllByRecursion R m → Parted P Q (cut_by test m)
   cut_parted [] h = tt
   cut_parted (x ∷ m) h = prepend_parted (test x) x (cut_by test m) refl h.0 (cut_parted m h.1)
 
 module _ {X : Type 0} (P Q : X → Type 0) where
-  pub parted_first : (r : Row (List X) X) → Parted P Q r → All P (first_gap r)
+  pub parted_first : (r : Row (List X) X) → Parted P Q r → AllByRecursion P (first_gap r)
   parted_first (end g) p = p
   parted_first (more g x r) p = p.0
 
-  pub parted_last : (r : Row (List X) X) → Parted P Q r → All P (last_gap r)
+  pub parted_last : (r : Row (List X) X) → Parted P Q r → AllByRecursion P (last_gap r)
   parted_last (end g) p = p
   parted_last (more g x r) p = parted_last r p.2
 
-  pub parted_gap : (i : ℕ) (r : Row (List X) X) → Parted P Q r → All P (gap_at i r)
+  pub parted_gap : (i : ℕ) (r : Row (List X) X) → Parted P Q r → AllByRecursion P (gap_at i r)
   parted_gap zero r p = parted_first r p
   parted_gap (suc i) (end g) p = p
   parted_gap (suc i) (more g x r) p = parted_gap i r p.2
@@ -162,6 +162,6 @@ replace-graft (end g) x y s = ap (more g y) (set_first_same s)
 replace-graft (more g z r) x y s = ap (more g z) (replace-graft r x y s)
 
 -- what holds of each element by two accounts
-pub both-all : {X : Type 0} (P Q R : X → Type 0) → ((x : X) → P x → Q x → R x) → (xs : List X) → All P xs → All Q xs → All R xs
+pub both-all : {X : Type 0} (P Q R : X → Type 0) → ((x : X) → P x → Q x → R x) → (xs : List X) → AllByRecursion P xs → AllByRecursion Q xs → AllByRecursion R xs
 both-all P Q R f [] p q = tt
 both-all P Q R f (x ∷ xs) p q = (f x p.0 q.0, both-all P Q R f xs p.1 q.1)

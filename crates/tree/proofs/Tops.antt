@@ -1,6 +1,6 @@
 -- Trees seen from above their root: a path that is raised, a split below a higher key, a join below a lower root. Assumes nothing.
 use Rattle.std.proofs.Common.{◌≡◌, ℕ, zero, suc, ◌+◌, true, List, [], ◌∷◌, ◌++◌, map, Option, sym, refl, ap, subst, arith}
-use Rattle.std.specs.List.{AllByRecursion as All}
+use Rattle.std.specs.List.{AllByRecursion}
 use Rattle.std.proofs.lemmas.Bool.{eq-eqb}
 use Rattle.digest.specs.Kind.{Kind}
 use Rattle.digest.specs.Layer.{layer}
@@ -45,53 +45,53 @@ raise-path κ (suc j) n k m u =
 -- a split below a key that is above the old root
 module _ (κ : Kind) (P : Placed → Type 0) where
   pub split_above : (j n : ℕ) (a b : Map) → Under κ n a → Under κ n b
-      → All P (upward (map both (sides κ (up j n) a b))) → All P (nodes_below κ n (a ++ b)) → All P (nodes_below κ (up j n) a) × All P (nodes_below κ (up j n) b)
+      → AllByRecursion P (upward (map both (sides κ (up j n) a b))) → AllByRecursion P (nodes_below κ n (a ++ b)) → AllByRecursion P (nodes_below κ (up j n) a) × AllByRecursion P (nodes_below κ (up j n) b)
   split_above zero n a b u v new old = split_complete κ P n a b u v new old
   split_above (suc j) n a b u v new old =
       let N = up j n in
       let ca = cut_above κ N a (under_up κ j n a u) in
       let cb = cut_above κ N b (under_up κ j n b v) in
       let parts = under κ P N (row κ N a ∷ (row κ N b ∷ [])) (map both (sides κ N (left_gap κ N a) (right_gap κ N b))) (sides_layers κ N (left_gap κ N a) (right_gap κ N b)) new in
-      let lower : All P (upward (map both (sides κ N a b))) = rw (ca, cb) at parts.0 in
+      let lower : AllByRecursion P (upward (map both (sides κ N a b))) = rw (ca, cb) at parts.0 in
       let rest = split_above j n a b u v lower old in (
-        made κ P N a (row κ N b ∷ []) (under_up κ (suc j) n a u) parts.1 (subst (λ r. All P (over_gaps (nodes_below κ N) r)) (sym ca) rest.0),
-        made κ P N b [] (under_up κ (suc j) n b v) (placed_rest P N (row κ N a) (row κ N b ∷ []) parts.1) (subst (λ r. All P (over_gaps (nodes_below κ N) r)) (sym cb) rest.1),
+        made κ P N a (row κ N b ∷ []) (under_up κ (suc j) n a u) parts.1 (subst (λ r. AllByRecursion P (over_gaps (nodes_below κ N) r)) (sym ca) rest.0),
+        made κ P N b [] (under_up κ (suc j) n b v) (placed_rest P N (row κ N a) (row κ N b ∷ []) parts.1) (subst (λ r. AllByRecursion P (over_gaps (nodes_below κ N) r)) (sym cb) rest.1),
       )
 
   -- an insert of a key above the old root
   pub insert_above_root : (j n : ℕ) (a : Map) (x : Item) (b : Map) → Around x.key a b → Under κ n a → Under κ n b → layer κ x.key ≡ up j n
-      → All P (upward (layers_of (forked_path κ (suc (up j n)) x.key (a ++ (x ∷ b))))) → All P (nodes_below κ n (a ++ b)) → All P (nodes_below κ (suc (up j n)) (a ++ (x ∷ b)))
+      → AllByRecursion P (upward (layers_of (forked_path κ (suc (up j n)) x.key (a ++ (x ∷ b))))) → AllByRecursion P (nodes_below κ n (a ++ b)) → AllByRecursion P (nodes_below κ (suc (up j n)) (a ++ (x ∷ b)))
   insert_above_root j n a x b s u v e new old =
       let N = up j n in
       let f = nodes_below κ N in
       let t : at κ N x ≡ true = rw e (eq-eqb N N refl) in
       let ua = under_up κ j n a u in
       let ub = under_up κ j n b v in
-      let new' = subst (λ (p : ForkedPath). All P (upward (layers_of p))) (forked_path-at κ N x.key a b s x refl t) new in
+      let new' = subst (λ (p : ForkedPath). AllByRecursion P (upward (layers_of p))) (forked_path-at κ N x.key a b s x refl t) new in
       let parts = under κ P N (single (row κ N (a ++ (x ∷ b)))) (map both (sides κ N (left_gap κ N a) (right_gap κ N b))) (sides_layers κ N (left_gap κ N a) (right_gap κ N b)) new' in
-      let lower : All P (upward (map both (sides κ N a b))) = rw (cut_above κ N a ua, cut_above κ N b ub) at parts.0 in
+      let lower : AllByRecursion P (upward (map both (sides κ N a b))) = rw (cut_above κ N a ua, cut_above κ N b ub) at parts.0 in
       let halves = split_above j n a b u v lower old in
-      let gaps : All P (over_gaps f (graft (end a) x (end b))) = graft_from P f (end a) x (end b) halves.0 halves.1 in
+      let gaps : AllByRecursion P (over_gaps f (graft (end a) x (end b))) = graft_from P f (end a) x (end b) halves.0 halves.1 in
       let cut-is : cut κ N (a ++ (x ∷ b)) ≡ graft (end a) x (end b) = rw (cut_at (at κ N) a x b t, cut_above κ N a ua, cut_above κ N b ub) in
       made κ P N (a ++ (x ∷ b)) [] (under_append κ (suc N) a (x ∷ b) (under_up κ (suc j) n a u) (omega arith, under_up κ (suc j) n b v)) parts.1
-      (subst (λ r. All P (over_gaps f r)) (sym cut-is) gaps)
+      (subst (λ r. AllByRecursion P (over_gaps f r)) (sym cut-is) gaps)
 
   -- the nodes of a map that are below its highest layer
-  pub descend : (j n : ℕ) (m : Map) → Under κ n m → All P (nodes_below κ (up j n) m) → All P (nodes_below κ n m)
+  pub descend : (j n : ℕ) (m : Map) → Under κ n m → AllByRecursion P (nodes_below κ (up j n) m) → AllByRecursion P (nodes_below κ n m)
   descend zero n m u h = h
   descend (suc j) n m u h =
       let N = up j n in
-      descend j n m u (subst (λ r. All P (over_gaps (nodes_below κ N) r)) (cut_above κ N m (under_up κ j n m u)) (inner κ P N m h))
+      descend j n m u (subst (λ r. AllByRecursion P (over_gaps (nodes_below κ N) r)) (cut_above κ N m (under_up κ j n m u)) (inner κ P N m h))
 
   -- a delete of the only key on the old root's layer
   pub delete-top : (j n : ℕ) (k : List ℕ) (a : Map) (x : Item) (b : Map) → Around k a b → Under κ n a → Under κ n b → layer κ x.key ≡ up j n
-      → All P (upward (map single (path κ n k (a ++ b)))) → All P (nodes_below κ (suc (up j n)) (a ++ (x ∷ b))) → All P (nodes_below κ n (a ++ b))
+      → AllByRecursion P (upward (map single (path κ n k (a ++ b)))) → AllByRecursion P (nodes_below κ (suc (up j n)) (a ++ (x ∷ b))) → AllByRecursion P (nodes_below κ n (a ++ b))
   delete-top j n k a x b s u v e new old =
       let N = up j n in
       let f = nodes_below κ N in
       let t : at κ N x ≡ true = rw e (eq-eqb N N refl) in
       let cut-is : cut κ N (a ++ (x ∷ b)) ≡ graft (end a) x (end b) = rw (cut_at (at κ N) a x b t, cut_above κ N a (under_up κ j n a u), cut_above κ N b (under_up κ j n b v)) in
-      let gaps = graft_parts P f (end a) x (end b) (subst (λ r. All P (over_gaps f r)) cut-is (inner κ P N (a ++ (x ∷ b)) old)) in
+      let gaps = graft_parts P f (end a) x (end b) (subst (λ r. AllByRecursion P (over_gaps f r)) cut-is (inner κ P N (a ++ (x ∷ b)) old)) in
       join_complete κ P n k a b s u v new (descend j n a u gaps.0) (descend j n b v gaps.1)
 
 -- the root of a path is the highest node with a key

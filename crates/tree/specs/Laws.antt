@@ -17,7 +17,7 @@
 use Rattle.std.specs.Prelude.{◌≡◌, ℕ, suc, ◌<◌, ◌≤◌, false, ◌≢◌, ◌⊎◌, List, [], ◌++◌, map, length}
 use mathlib.Core.List.{Sublistᴰ}
 use Rattle.std.specs.Option.{option_map}
-use Rattle.std.specs.List.{ContainsAt as Has, AllByRecursion as All}
+use Rattle.std.specs.List.{ContainsAt as Has, AllByRecursion}
 use Rattle.digest.specs.Kind.{Kind}
 use Rattle.digest.specs.Layer.{layer}
 use Rattle.node.specs.Format.{Node}
@@ -30,8 +30,8 @@ use Rattle.tree.specs.Row.{Row, end, more, flat, count, first_gap, last_gap, gap
 use Rattle.tree.specs.Tree.{cut, leaf, Links, node_of, row_of, row, below, top, root_node, root, Placed, nodes, blocks, any_wide, crowded}
 
 abbrev pub Parted : {X : Type 0} → (X → Type 0) → (X → Type 0) → Row (List X) X → Type 0
-Parted P Q (end g) = All P g
-Parted P Q (more g x r) = All P g × Q x × Parted P Q r
+Parted P Q (end g) = AllByRecursion P g
+Parted P Q (more g x r) = AllByRecursion P g × Q x × Parted P Q r
 
 pub record NodeLaw (κ : Kind) : Type 0 where
   -- the gaps and the keys of the node at layer n, put together again, are the map
@@ -39,7 +39,7 @@ pub record NodeLaw (κ : Kind) : Type 0 where
   -- its keys are of layer n, and those in its gaps are not
   pub layers : (n : ℕ) (m : Map) → Parted (λ x. layer κ x.key ≢ n) (λ x. layer κ x.key ≡ n) (cut κ n m)
   -- no key is above the root's layer, and one is on it, but in the empty map
-  pub under_top : (m : Map) → All (λ x. layer κ x.key ≤ top κ m) m
+  pub under_top : (m : Map) → AllByRecursion (λ x. layer κ x.key ≤ top κ m) m
   pub on_top : (m : Map) → (m ≡ []) ⊎ ((x : Item) × Has m x × (layer κ x.key ≡ top κ m))
   -- the nodes of layer n, from left to right, hold the keys of layer n in their order, with the digests of their records
   pub held : (n : ℕ) (m : Map) → leaves (on_layer n (nodes κ m)) ≡ map (leaf κ) (items_at κ n m)
@@ -55,7 +55,7 @@ pub record SplitJoin (κ : Kind) (n : ℕ) (a b : Map) : Type 0 where
 
 pub record PathLaw (κ : Kind) : Type 0 where
   -- from a node that has not the key, the link in the key's place leads to the next node, and is null where there is none
-  pub follows : (n : ℕ) (k : List ℕ) (m : Map) → All (λ x. layer κ x.key < suc n) m → has k (row κ n m) ≡ false
+  pub follows : (n : ℕ) (k : List ℕ) (m : Map) → AllByRecursion (λ x. layer κ x.key < suc n) m → has k (row κ n m) ≡ false
       → gap_at (place k (row κ n m)) (row κ n m) ≡ link_up κ (path κ n k (gap_of κ n k m))
   -- a path says of its key what the map does
   pub tells : (k : List ℕ) (m : Map) → Rising m → path_says k (path_from_root κ k m) ≡ option_map κ.hash (lookup k m)
@@ -102,8 +102,8 @@ pub record Kept (κ : Kind) (m : Map) : Type 0 where
   pub narrow : crowded κ m ≡ false
 
 pub record BlockLaw (κ : Kind) : Type 0 where
-  pub well_formed : (m : Map) → Kept κ m → All (λ t. WellFormed t.node) (nodes κ m)
-  pub fit : (m : Map) → Kept κ m → All IsBlock (blocks κ m)
+  pub well_formed : (m : Map) → Kept κ m → AllByRecursion (λ t. WellFormed t.node) (nodes κ m)
+  pub fit : (m : Map) → Kept κ m → AllByRecursion IsBlock (blocks κ m)
 
 abbrev pub EqualKeptRoots : Kind → Type 0
 EqualKeptRoots κ = (m n : Map) → Kept κ m → Kept κ n → root κ m ≡ root κ n

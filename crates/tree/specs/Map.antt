@@ -13,7 +13,7 @@
 --
 -- Assumes nothing.
 use Rattle.std.specs.Prelude.{◌≡◌, ℕ, true, cond, List, [], ◌∷◌, length, Some, None, Option}
-use Rattle.std.specs.List.{AllByRecursion as All}
+use Rattle.std.specs.List.{AllByRecursion}
 use Rattle.keys.specs.Order.{before}
 use Rattle.keys.specs.Size.{KeySized, RecordSized}
 use Rattle.node.specs.WellFormed.{Bytes}
@@ -37,7 +37,7 @@ abbrev pub Map : Type 0
 Map = List Item
 
 abbrev pub BeforeAll : List ℕ → Map → Type 0
-BeforeAll k m = All (λ x. before k x.key ≡ true) m
+BeforeAll k m = AllByRecursion (λ x. before k x.key ≡ true) m
 
 abbrev pub Rising : Map → Type 0
 Rising [] = Unit {0}
@@ -45,8 +45,8 @@ Rising (x ∷ m) = BeforeAll x.key m × Rising m
 
 pub record IsMap (m : Map) : Type 0 where
   pub rising : Rising m
-  pub keys : All (λ x. IsKey x.key) m
-  pub records : All (λ x. IsRecord x.value) m
+  pub keys : AllByRecursion (λ x. IsKey x.key) m
+  pub records : AllByRecursion (λ x. IsRecord x.value) m
 
 -- behind the keys that come before it; an equal key gives way
 abbrev pub insert : List ℕ → List ℕ → Map → Map

@@ -11,6 +11,6 @@ pub returns : goal.returns
 returns c = record {
   value = refl;
   fits = encode_fits;
-  of-bytes = encode_bytes;
+  of_bytes = encode_bytes;
   encodings = λ code. record { injective = encode_one code; linked = formed_linked; encodes = decode_encodes code; decodes = encodes_decode code };
 }

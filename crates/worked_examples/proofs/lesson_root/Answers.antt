@@ -5,13 +5,13 @@ use Rattle.digest.specs.Fold.{fold_hash}
 use Rattle.worked_examples.proofs.Trees.{lesson_folded, worked_trees}
 use Rattle.worked_examples.proofs.lesson_root.Goals as goal
 
-pub returns-in-err-end : goal.returns-in-err-end
-returns-in-err-end c = record { value = rw c.from-residual.ensures c.in-err-end.ensures.bytes; definitions = worked_trees }
+pub returns-in_err-end : goal.returns-in_err-end
+returns-in_err-end c = record { value = rw c.from_residual.ensures c.in_err-end.ensures.bytes; definitions = worked_trees }
 
-pub slice-bounds-digest-end : goal.slice-bounds-digest-end
-slice-bounds-digest-end c =
-    let written = c.in-ok-end.ensures.bytes in
-    omega (arith, written.0, ap length written.1, length-take c.in-ok-end.end c.write-lesson.new.out)
+pub slice_bounds-digest-end : goal.slice_bounds-digest-end
+slice_bounds-digest-end c =
+    let written = c.in_ok-end.ensures.bytes in
+    omega (arith, written.0, ap length written.1, length-take c.in_ok-end.end c.write_lesson.new.out)
 
 pub returns : goal.returns
-returns c = record { value = c.digest.ensures ∙ (ap fold_hash c.in-ok-end.ensures.bytes.1 ∙ lesson_folded); definitions = worked_trees }
+returns c = record { value = c.digest.ensures ∙ (ap fold_hash c.in_ok-end.ensures.bytes.1 ∙ lesson_folded); definitions = worked_trees }

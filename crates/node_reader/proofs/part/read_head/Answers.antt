@@ -9,8 +9,8 @@ returns-then-at-block c = grind (arith, walk)
 pub returns-then-first-kind : goal.returns-then-first-kind
 returns-then-first-kind c = grind (arith, walk)
 
-pub returns-then-n-le-IN-HEAD : goal.returns-then-n-le-IN-HEAD
-returns-then-n-le-IN-HEAD c = grind (arith, walk)
+pub returns-then-n-le-IN_HEAD : goal.returns-then-n-le-IN_HEAD
+returns-then-n-le-IN_HEAD c = grind (arith, walk)
 
 pub returns-then-n : goal.returns-then-n
 returns-then-n c = grind (arith, walk)
@@ -18,8 +18,8 @@ returns-then-n c = grind (arith, walk)
 pub returns-then-at-block-2 : goal.returns-then-at-block-2
 returns-then-at-block-2 c = grind (arith, walk)
 
-pub returns-then-n-le-IN-HEAD-2 : goal.returns-then-n-le-IN-HEAD-2
-returns-then-n-le-IN-HEAD-2 c = grind (arith, walk)
+pub returns-then-n-le-IN_HEAD-2 : goal.returns-then-n-le-IN_HEAD-2
+returns-then-n-le-IN_HEAD-2 c = grind (arith, walk)
 
 pub returns : goal.returns
 returns c = grind (arith, walk)

@@ -2,8 +2,8 @@
 use Rattle.node_reader.proofs.Walks.{link_absent, link_short, link_stands}
 use Rattle.node_reader.proofs.part.read_link.Goals as goal
 
-pub returns-in-default : goal.returns-in-default
-returns-in-default c = link_absent c.args.block.now c.args.at c.args.code c.in-default.ensures
+pub returns-in_default : goal.returns-in_default
+returns-in_default c = link_absent c.args.block.now c.args.at c.args.code c.in_default.ensures
 
 pub returns-then-block-start-lt32 : goal.returns-then-block-start-lt32
 returns-then-block-start-lt32 c = link_short _ _ _ _ c.in-Some.ensures c.if-block-start-lt32.true

@@ -6,8 +6,8 @@ use Rattle.node_reader.proofs.whole.pass_entries.Goals as goal
 pub loop-cursor-init : goal.loop-cursor-init
 loop-cursor-init c = passes_none _ _ _
 
-pub returns-in-default : goal.returns-in-default
-returns-in-default c = passes_ends _ _ _ _ c.loop-cursor.invariant (omega (arith, c.loop-cursor-test.true)) c.in-default.ensures
+pub returns-in_default : goal.returns-in_default
+returns-in_default c = passes_ends _ _ _ _ c.loop-cursor.invariant (omega (arith, c.loop-cursor-test.true)) c.in_default.ensures
 
 pub loop-cursor-preserved : goal.loop-cursor-preserved
 loop-cursor-preserved c = passes_more _ _ _ _ _ _ c.loop-cursor.invariant c.in-Some.ensures

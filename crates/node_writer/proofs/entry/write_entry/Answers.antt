@@ -7,17 +7,17 @@ use Rattle.node_writer.proofs.entry.write_entry.Goals as goal
 
 pub returns : goal.returns
 returns c =
-    let key = c.as-slice-key.result.now in
-    let shared = c.shared-len-shared.result in
+    let key = c.as_slice-key.result.now in
+    let shared = c.shared_len-shared.result in
     record {
       puts =
-          puts_as (entry_is c.args.code c.args.before.now key (entry_of c.args.entry.now) shared c.as-slice-key.ensures.value c.shared-len-shared.ensures.value)
-          (then c.write-bytes-at-k.ensures
-          (then c.write-string-end-k.ensures.puts
-          (then c.write-bytes-at-p.ensures
-          (then c.write-head-end-p.ensures.puts
-          (then c.write-bytes-at-t.ensures
-          (then c.write-link-or-null-end-t.ensures.puts
-          (then c.write-bytes-at-v.ensures c.write-link.ensures.puts)))))));
+          puts_as (entry_is c.args.code c.args.before.now key (entry_of c.args.entry.now) shared c.as_slice-key.ensures.value c.shared_len-shared.ensures.value)
+          (then c.write_bytes-at_k.ensures
+          (then c.write_string-end_k.ensures.puts
+          (then c.write_bytes-at_p.ensures
+          (then c.write_head-end_p.ensures.puts
+          (then c.write_bytes-at_t.ensures
+          (then c.write_link_or_null-end_t.ensures.puts
+          (then c.write_bytes-at_v.ensures c.write_link.ensures.puts)))))));
       bound = search rules;
     }

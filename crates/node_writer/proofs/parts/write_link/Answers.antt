@@ -5,6 +5,6 @@ use Rattle.node_writer.proofs.parts.write_link.Goals as goal
 
 pub returns : goal.returns
 returns c = record {
-  puts = then c.write-bytes-start.ensures c.write-bytes.ensures;
-  bound = omega (arith, c.write-bytes-start.ensures.ends, c.write-bytes.ensures.ends);
+  puts = then c.write_bytes-start.ensures c.write_bytes.ensures;
+  bound = omega (arith, c.write_bytes-start.ensures.ends, c.write_bytes.ensures.ends);
 }

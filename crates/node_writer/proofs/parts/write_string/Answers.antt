@@ -5,6 +5,6 @@ use Rattle.node_writer.proofs.parts.write_string.Goals as goal
 
 pub returns : goal.returns
 returns c = record {
-  puts = then c.write-head-start.ensures.puts c.write-bytes.ensures;
-  bound = omega (arith, c.write-head-start.ensures.bound, c.write-bytes.ensures.ends);
+  puts = then c.write_head-start.ensures.puts c.write_bytes.ensures;
+  bound = omega (arith, c.write_head-start.ensures.bound, c.write_bytes.ensures.ends);
 }

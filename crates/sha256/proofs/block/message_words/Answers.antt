@@ -14,7 +14,7 @@ loop-t-preserved c =
     let chunks = c.as_chunks.result.0.now in
     let words = c.loop-t.words in
     let t = c.loop-t.t in
-    let made = take_more_set words t c.from_be_bytes.result (omega (arith, c.as_chunks.ensures.front-len)) in (
+    let made = take_more_set words t c.from_be_bytes.result (omega (arith, c.as_chunks.ensures.front_len)) in (
       simp length-set c.loop-t.invariant.0,
       made ∙ rw (c.loop-t.invariant.1, c.from_be_bytes.ensures) (sym (map_more word chunks t [] c.loop-t-test.true)),
     )
@@ -27,6 +27,6 @@ returns c =
     let count : length block / 4 ≡ 16 = rw c.told-block in
     let sixteen : chunks ≡ first_chunks 4 16 block = rw count at c.as_chunks.ensures.front in
     let past = c.loop-t-test.false in
-    sym (take_all c.loop-t.t c.loop-t.words (omega (arith, c.as_chunks.ensures.front-len)))
+    sym (take_all c.loop-t.t c.loop-t.words (omega (arith, c.as_chunks.ensures.front_len)))
     ∙ c.loop-t.invariant.1
     ∙ ap (map word) (take_all c.loop-t.t chunks past ∙ sixteen)

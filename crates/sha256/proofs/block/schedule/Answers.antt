@@ -1,5 +1,5 @@
 -- The words so far, extended, are the schedule.
-use Rattle.std.proofs.Common.{◌≡◌, ◌+◌, ◌-◌, ◌*◌, length, set, replicate, sym, ap, ◌∙◌, arith}
+use Rattle.std.proofs.Common.{◌≡◌, ◌+◌, ◌*◌, length, set, replicate, sym, ap, ◌∙◌, arith}
 use Rattle.std.proofs.lemmas.List.{length-append, length-set, take_at}
 use Rattle.sha256.specs.Rounds.{extended, schedule}
 use Rattle.sha256.proofs.Schedules.{extended_more, extended_all}

@@ -5,7 +5,7 @@ use Rattle.keys.specs.Key.{key_bytes}
 use Rattle.keys.proofs.key.make.joined.Goals as goal
 
 pub invariant_of-result : goal.invariant_of-result
-invariant_of-result c = (omega arith, (omega arith, (search (rules, overwrites), tt)))
+invariant_of-result c = record { some = omega arith; short = omega arith; room = search (rules, overwrites) }
 
 pub returns : goal.returns
 unfolding key_bytes

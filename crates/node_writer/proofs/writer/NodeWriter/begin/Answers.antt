@@ -6,7 +6,7 @@ use Rattle.node_writer.proofs.writer.NodeWriter.begin.Goals as goal
 
 pub returns : goal.returns
 returns c =
-    let puts = then c.write-bytes-start.ensures c.write-head-at.ensures.puts in
+    let puts = then c.write_bytes-start.ensures c.write_head-at.ensures.puts in
     record {
       roomy = record { room = omega arith; few = omega arith };
       written = λ code. written_none code c.args.count _ _ _ puts refl refl;

@@ -9,11 +9,11 @@ use Rattle.node_writer.proofs.writer.NodeWriter.finish.Goals as goal
 pub returns : goal.returns
 returns g c =
     let first = link_of c.args.first in
-    let link = link_or_null c.code-byte-code.result first in
-    let wrote = puts_as (ap (λ code. closing code first) (sym c.code-byte-code.ensures)) (then {q = link} c.write-bytes-start.ensures c.write-link-or-null.ensures.puts) in
+    let link = link_or_null c.code_byte-code.result first in
+    let wrote = puts_as (ap (λ code. closing code first) (sym c.code_byte-code.ensures)) (then {q = link} c.write_bytes-start.ensures c.write_link_or_null.ensures.puts) in
     record {
       written = written_all g.K.DigestKind.kind.code first c.args.self c.args.out.now _ _ wrote c.requires.none;
       puts = wrote;
       kept = puts_kept wrote;
-      bound = omega (arith, c.write-link-or-null.ensures.bound, c.write-bytes-start.ensures.ends, c.args.self.room);
+      bound = omega (arith, c.write_link_or_null.ensures.bound, c.write_bytes-start.ensures.ends, c.args.self.room);
     }

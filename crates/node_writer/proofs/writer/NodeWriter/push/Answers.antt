@@ -9,7 +9,7 @@ use Rattle.node_writer.proofs.writer.NodeWriter.push.Goals as goal
 pub returns : goal.returns
 returns g c =
     let new = entry_of c.args.entry.now in
-    let wrote = puts_as (ap₂ (λ code before. entry code before new) (sym c.code-byte-code.ensures) (sym c.previous.ensures)) c.write-entry-self.ensures.puts in
+    let wrote = puts_as (ap₂ (λ code before. entry code before new) (sym c.code_byte-code.ensures) (sym c.previous.ensures)) c.write_entry-self.ensures.puts in
     record {
       written = written_push g.K.DigestKind.kind.code new c.args.self.now _ c.args.out.now _ wrote (omega arith) refl;
       puts = wrote;
