@@ -1,7 +1,7 @@
 -- The scan goes as the reader does.
 use Rattle.std.proofs.Common.{◌≡◌, ◌+◌, ◌-◌, ◌<◌, true, false, ◌⊎◌, [], length, get_or, take, Some, None, sym, ap, ◌∙◌, subst, inl, inr, arith}
 use native.Mathlib.Nat.{sub-zero}
-use Rattle.std.specs.List.{AllByRecursion as All}
+use Rattle.std.specs.List.{AllByRecursion}
 use Rattle.std.specs.Str.{bytes_eq}
 use Rattle.pack.specs.Lawful.{whole_sectors}
 use Rattle.pack.specs.Reader.{goes_on}
@@ -30,7 +30,7 @@ pub parts-init : goal.parts-init
 parts-init c =
     let ss = c.as_chunks.result.0.now in
     let at = c.scan.at in
-    let whole : All Whole ss = subst (λ xs. All Whole xs) (sym c.as_chunks.ensures.front) (whole_sectors c.args.memory.now) in
+    let whole : AllByRecursion Whole ss = subst (λ xs. AllByRecursion Whole xs) (sym c.as_chunks.ensures.front) (whole_sectors c.args.memory.now) in
     let within : at < length ss = omega (arith, c.if-at-count.false, c.scan.invariant.upto) in
     let fresh : any_named (take at ss) (name_of (get_or ss at [])) ≡ false = ap (λ n. any_named (take n ss) (name_of (get_or ss at []))) (sym (sub-zero at)) ∙ none_named (take (at - 0) ss) (name_of (get_or ss at [])) c.first_named.result c.first_named.ensures (sym c.if-is_some.ensures) in
     (omega arith, inside_start ss at c.scan.invariant whole within (sym c.if-is_unused.ensures) fresh)
@@ -39,7 +39,7 @@ pub parts-preserved : goal.parts-preserved
 parts-preserved c =
     let ss = c.as_chunks.result.0.now in
     let at = c.parts.at in
-    let whole : All Whole ss = subst (λ xs. All Whole xs) (sym c.as_chunks.ensures.front) (whole_sectors c.args.memory.now) in
+    let whole : AllByRecursion Whole ss = subst (λ xs. AllByRecursion Whole xs) (sym c.as_chunks.ensures.front) (whole_sectors c.args.memory.now) in
     let left : length ss - at - 1 ≡ length ss - (at + 1) = omega arith in
     let more : goes_on (length ss - (at + 1)) c.parts.part (get_or ss at []) ≡ true = ap (λ n. goes_on n c.parts.part (get_or ss at [])) (sym left) ∙ sym c.if-goes_on.ensures in
     (omega (arith, c.parts.invariant.0), inside_more ss at _ c.parts.part whole c.parts.invariant.1 (sym c.if-not-has_name.ensures) more)
@@ -51,7 +51,7 @@ pub scan-preserved : goal.scan-preserved
 scan-preserved c =
     let ss = c.as_chunks.result.0.now in
     let at = c.parts.at in
-    let whole : All Whole ss = subst (λ xs. All Whole xs) (sym c.as_chunks.ensures.front) (whole_sectors c.args.memory.now) in
+    let whole : AllByRecursion Whole ss = subst (λ xs. AllByRecursion Whole xs) (sym c.as_chunks.ensures.front) (whole_sectors c.args.memory.now) in
     let left : length ss - at - 1 ≡ length ss - (at + 1) = omega arith in
     let stops : goes_on (length ss - (at + 1)) c.parts.part (get_or ss at []) ≡ false = ap (λ n. goes_on n c.parts.part (get_or ss at [])) (sym left) ∙ sym c.if-goes_on.ensures in
     inside_last ss at _ c.parts.part whole c.parts.invariant.1 (sym c.if-not-has_name.ensures) stops (sym c.if-not-ends.ensures)
