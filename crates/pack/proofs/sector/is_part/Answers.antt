@@ -17,7 +17,7 @@ returns-then-not-headed c =
 pub returns-then-not-is_zero : goal.returns-then-not-is_zero
 returns-then-not-is_zero c =
     let whole : length c.args.sector.now ≡ 512 = search rules in
-    sym (wrong_padding c.args.sector.now c.args.kind c.args.part c.args.count whole c.requires.count-bound (sym c.if-not-is_zero.ensures))
+    sym (wrong_padding c.args.sector.now c.args.kind c.args.part c.args.count whole c.requires.count_bound (sym c.if-not-is_zero.ensures))
 
 pub returns : goal.returns
 returns c =

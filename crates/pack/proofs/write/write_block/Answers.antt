@@ -42,5 +42,5 @@ returns c =
           ∙ ap (λ xs. set xs (place + full) w) (c.loop-part.invariant ∙ ap (so_far ss place name block) upto)
           ∙ written_last ss place name block w full count c.requires.short room (ap (sector 2 full name) (take_rest block (full * 468)));
       end = omega (arith, count, cost_least (length block));
-      name_size = c.write_part-2.ensures.name-size;
+      name_size = c.write_part-2.ensures.name_size;
     }

@@ -26,10 +26,11 @@ invariant_of-self c =
     let name = c.args.name.now.bytes in
     let block = c.args.block.now in
     let w = c.write-self.ensures in
-    let is = added_read m n s.used s.free c.sectors_for-cost.result name block s.filled s.vacant c.sectors_for-cost.ensures c.if-cost-self.false w.size w.name-size c.requires.short c.requires.absent w.after in (
-      omega (arith, used_written m n name block is, s.filled, w.end),
-      (omega (arith, ap free_read is, s.vacant, c.sectors_for-cost.ensures), tt),
-    )
+    let is = added_read m n s.used s.free c.sectors_for-cost.result name block s.filled s.vacant c.sectors_for-cost.ensures c.if-cost-self.false w.size w.name_size c.requires.short c.requires.absent w.after in
+    record {
+      filled = omega (arith, used_written m n name block is, s.filled, w.end);
+      vacant = omega (arith, ap free_read is, s.vacant, c.sectors_for-cost.ensures);
+    }
 
 pub returns : goal.returns
 returns c =

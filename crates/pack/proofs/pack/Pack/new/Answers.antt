@@ -9,7 +9,7 @@ overflow_sub-free c = (made_good c.args.memory.now c.in-Ok.used c.in-Ok.ensures)
 pub invariant_of-result : goal.invariant_of-result
 invariant_of-result c =
     let h = made_bad c.args.memory.now c.in-Err.field-0 c.in-Err.ensures in
-    (h.0, (h.1, tt))
+    record { filled = h.0; vacant = h.1 }
 
 pub returns-in-Err : goal.returns-in-Err
 returns-in-Err c = record { same = refl; sound = (known c.args.memory.now).sound }
@@ -17,7 +17,7 @@ returns-in-Err c = record { same = refl; sound = (known c.args.memory.now).sound
 pub invariant_of-result-2 : goal.invariant_of-result-2
 invariant_of-result-2 c =
     let h = made_good c.args.memory.now c.in-Ok.used c.in-Ok.ensures in
-    (h.0, (h.1, tt))
+    record { filled = h.0; vacant = h.1 }
 
 pub returns : goal.returns
 returns c = record { same = refl; sound = (known c.args.memory.now).sound }
