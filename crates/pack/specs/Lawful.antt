@@ -2,7 +2,7 @@
 --
 --   whole_sectors    every sector of memory has 512 bytes
 --   cost_least       a block takes at least one sector
---   FitState        what was read up to a state keeps the limits
+--   FitState         what was read up to a state keeps the limits
 --   pack_lawful      a pack holds blocks within the limit under names of 32 bytes
 --
 -- Assumes nothing.
