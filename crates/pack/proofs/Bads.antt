@@ -1,6 +1,6 @@
 -- The reader tells good packs, and the first bad sector of all others. Assumes nothing.
 use Rattle.std.proofs.Common.{◌≡◌, ℕ, zero, suc, ◌+◌, ◌-◌, ◌<◌, ◌≤◌, Bool, true, false, cond, eqb, List, [], ◌∷◌, ◌++◌, length, take, drop, replicate, Some, None, Option, sym, refl, ap, ◌∙◌, subst, arith}
-use Rattle.std.specs.List.{AllByRecursion as All}
+use Rattle.std.specs.List.{AllByRecursion}
 use Rattle.std.specs.Str.{bytes_eq}
 use Rattle.std.proofs.ByRecursion.{All-append, All-take, All-drop}
 use Rattle.std.proofs.lemmas.List.{append_assoc, append-nil, length-append, length-replicate, length-take-le, replicate-append-replicate, take_at}
@@ -13,12 +13,12 @@ use Rattle.pack.proofs.Reaches.{In, Reached, closes, reached_start, step_reached
 use Rattle.pack.proofs.Readings.{read_pack}
 
 abbrev pub Bytes : List ℕ → Type 0
-Bytes s = All (λ b. b < 256) s
+Bytes s = AllByRecursion (λ b. b < 256) s
 
 abbrev pub Whole : List ℕ → Type 0
 Whole s = length s ≡ 512
 
-all_replicate : {X : Type 0} (P : X → Type 0) (n : ℕ) (x : X) → P x → All P (replicate n x)
+all_replicate : {X : Type 0} (P : X → Type 0) (n : ℕ) (x : X) → P x → AllByRecursion P (replicate n x)
 all_replicate P zero x h = tt
 all_replicate P (suc n) x h = (h, all_replicate P n x h)
 
@@ -48,7 +48,7 @@ bytes_closing part name h =
 pub record Completes (left : ℕ) (xs : List (List ℕ)) : Type 0 where
   pub rest : List (List ℕ)
   pub count : length rest ≡ left
-  pub bytes : All Bytes rest
+  pub bytes : AllByRecursion Bytes rest
   pub pairs : List Pair
   pub unused : ℕ
   pub sound : Sound pairs
@@ -139,7 +139,7 @@ step-named left (ended pairs k) s after small n is = by_use (bytes_eq s unused_s
   by_use false i = absurd (grind arith)
 
 -- what was read is the pack of the pairs
-read_all : (ss xs : List (List ℕ)) (state : State) (at : ℕ) (pairs : List Pair) (unused : ℕ) → All Whole ss → Reached (length ss) xs state → read_from state at ss ≡ good pairs unused → Sound pairs × (xs ++ ss ≡ pack_sectors pairs unused)
+read_all : (ss xs : List (List ℕ)) (state : State) (at : ℕ) (pairs : List Pair) (unused : ℕ) → AllByRecursion Whole ss → Reached (length ss) xs state → read_from state at ss ≡ good pairs unused → Sound pairs × (xs ++ ss ≡ pack_sectors pairs unused)
 read_all [] xs (between ps) at pairs unused whole r is =
     let p : ps ≡ pairs = cc in
     let u : 0 ≡ unused = cc in
@@ -156,7 +156,7 @@ read_all (s ∷ ss) xs state at pairs unused whole r is = by_step (λ after. rea
       let h = again after (step_reached (length ss) xs state s after r whole.0 e) i in
       (h.0, sym (append_assoc xs (s ∷ []) ss) ∙ h.1)
 
-pub read_good : (ss : List (List ℕ)) (pairs : List Pair) (unused : ℕ) → All Whole ss → read_sectors ss ≡ good pairs unused → Sound pairs × (ss ≡ pack_sectors pairs unused)
+pub read_good : (ss : List (List ℕ)) (pairs : List Pair) (unused : ℕ) → AllByRecursion Whole ss → read_sectors ss ≡ good pairs unused → Sound pairs × (ss ≡ pack_sectors pairs unused)
 read_good ss pairs unused whole is = read_all ss [] (between []) 0 pairs unused whole (reached_start (length ss)) is
 
 -- the reader stops behind where it starts
@@ -170,7 +170,7 @@ bad_behind (s ∷ ss) state at b is = by_step (λ after. bad_behind ss after (at
   by_step again (Some after) i = let h = again after i in omega arith
 
 -- up to the sector where the reader stops, some good pack goes on
-bad_before : (ss xs : List (List ℕ)) (state : State) (at b k : ℕ) → All Whole ss → All Bytes ss → Named state → Reached (length ss) xs state → read_from state at ss ≡ bad b → at + k ≤ b → Completes (length ss - k) (xs ++ take k ss)
+bad_before : (ss xs : List (List ℕ)) (state : State) (at b k : ℕ) → AllByRecursion Whole ss → AllByRecursion Bytes ss → Named state → Reached (length ss) xs state → read_from state at ss ≡ bad b → at + k ≤ b → Completes (length ss - k) (xs ++ take k ss)
 bad_before ss xs state at b zero whole small n r is within =
     let all : length ss ≡ length ss - 0 = omega arith in
     subst (λ m. Completes m (xs ++ [])) all (subst (Completes (length ss)) (sym (append-nil xs)) (complete (length ss) xs state n r))
@@ -185,7 +185,7 @@ bad_before (s ∷ ss) xs state at b (suc k) whole small n r is within = by_step 
       let count : length ss - k ≡ suc (length ss) - suc k = omega arith in
       subst (λ m. Completes m (xs ++ (s ∷ take k ss))) count (subst (Completes (length ss - k)) (append_assoc xs (s ∷ []) (take k ss)) h)
 
-bad_within : (ss xs : List (List ℕ)) (state : State) (at b : ℕ) → All Whole ss → Reached (length ss) xs state → read_from state at ss ≡ bad b → b < at + length ss
+bad_within : (ss xs : List (List ℕ)) (state : State) (at b : ℕ) → AllByRecursion Whole ss → Reached (length ss) xs state → read_from state at ss ≡ bad b → b < at + length ss
 bad_within [] xs (between ps) at b whole r is = absurd (grind arith)
 bad_within [] xs (inside ps name part bytes) at b whole r is = absurd (omega (arith, r.more))
 bad_within [] xs (ended ps n) at b whole r is = absurd (grind arith)
@@ -220,7 +220,7 @@ bad_same (s ∷ ss) (g ∷ gs) state at k size same is =
 pub good_read : (gs : List (List ℕ)) (g : Good gs) → read_sectors gs ≡ good g.pairs g.unused
 good_read gs g = ap read_sectors g.is ∙ read_pack g.pairs g.unused g.sound
 
-agrees : (ss : List (List ℕ)) (t : ℕ) → t < length ss → All Bytes ss → Completes (length ss - (t + 1)) (take (t + 1) ss) → (pack : List (List ℕ)) × Agrees ss t pack
+agrees : (ss : List (List ℕ)) (t : ℕ) → t < length ss → AllByRecursion Bytes ss → Completes (length ss - (t + 1)) (take (t + 1) ss) → (pack : List (List ℕ)) × Agrees ss t pack
 agrees ss t within small c =
     let front = take (t + 1) ss in
     let size : length front ≡ t + 1 = length-take-le (t + 1) ss (omega arith) in (
@@ -233,7 +233,7 @@ agrees ss t within small c =
     )
 
 -- where the reader stops is the first bad sector
-pub first_bad : (ss : List (List ℕ)) (b : ℕ) → All Whole ss → All Bytes ss → read_sectors ss ≡ bad b → FirstBad ss b
+pub first_bad : (ss : List (List ℕ)) (b : ℕ) → AllByRecursion Whole ss → AllByRecursion Bytes ss → read_sectors ss ≡ bad b → FirstBad ss b
 first_bad ss b whole small is =
     let zero_more : b ≡ 0 + b = omega arith in
     let behind : b < 0 + length ss = bad_within ss [] (between []) 0 b whole (reached_start (length ss)) is in

@@ -1,6 +1,6 @@
 -- A block is found where the first sector of its name stands. Assumes nothing.
 use Rattle.std.proofs.Common.{◌≡◌, ℕ, zero, suc, ◌+◌, ◌-◌, ◌<◌, ◌≤◌, min, Bool, true, false, cond, eqb, List, [], ◌∷◌, ◌++◌, length, get_or, take, drop, Some, None, sym, refl, ap, ◌∙◌, ⊎_elim, arith}
-use Rattle.std.specs.List.{AllByRecursion as All}
+use Rattle.std.specs.List.{AllByRecursion}
 use Rattle.std.specs.Str.{bytes_eq}
 use Rattle.std.proofs.lemmas.Slice.Eq.{bytes_eq-Decides}
 use Rattle.std.proofs.lemmas.List.{append-nil, get_or_append_left, get_or-append_right, length-append, length-drop, length-take-le, take-append-drop}
@@ -88,7 +88,7 @@ drop_past (x ∷ xs) ys (suc i) past =
 not_below : (i n : ℕ) → (i < n → ⊥) → n ≤ i
 not_below i n above = ⊎_elim (λ l. absurd (above l)) (λ l. l) (cases_lt i n)
 
-pub find_first : (ps : List Pair) (name : List ℕ) (i : ℕ) → All Fits ps → FirstNamed (blocks ps) name i → Found ps name i
+pub find_first : (ps : List Pair) (name : List ℕ) (i : ℕ) → AllByRecursion Fits ps → FirstNamed (blocks ps) name i → Found ps name i
 find_first [] name i fit h = absurd (omega (arith, h.within))
 find_first (p ∷ ps) name i fit h = by_name (λ j. find_first ps name j fit.1) (bytes_eq p.name name) refl where
   own : List (List ℕ)

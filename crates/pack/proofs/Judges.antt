@@ -1,7 +1,7 @@
 -- The verdict on memory is right. Assumes nothing.
 use Rattle.std.proofs.Common.{◌≡◌, ℕ, zero, suc, ◌/◌, ◌%◌, ◌<◌, Bool, true, false, cond, eqb, ltb, List, length, drop, Ok, Err, Result, refl, arith}
 use Rattle.std.specs.Simd.{first_chunks}
-use Rattle.std.specs.List.{AllByRecursion as All}
+use Rattle.std.specs.List.{AllByRecursion}
 use Rattle.std.proofs.ByRecursion.{All-drop, All-take}
 use Rattle.std.proofs.lemmas.Bool.{and_from, and_parts, eq-eqb, eqb-true, lt-ltb, ltb-true}
 use Rattle.pack.specs.Lawful.{whole_sectors}
@@ -14,7 +14,7 @@ use Rattle.pack.specs.declared.fault.MemoryFault.{MemoryFault}
 use Rattle.pack.specs.declared.fault.MemoryFault.TheVariants.{NoSectors}
 use Rattle.pack.proofs.Bads.{Bytes, first_bad, read_good}
 
-bytes_chunks : (k : ℕ) (m : List ℕ) → Bytes m → All Bytes (first_chunks 512 k m)
+bytes_chunks : (k : ℕ) (m : List ℕ) → Bytes m → AllByRecursion Bytes (first_chunks 512 k m)
 bytes_chunks zero m small = tt
 bytes_chunks (suc k) m small = (All-take (λ b. b < 256) 512 m small, bytes_chunks k (drop 512 m) (All-drop (λ b. b < 256) 512 m small))
 
@@ -31,7 +31,7 @@ judge m small = by_size (sectored m) refl where
   ss : List (List ℕ)
   ss = sectors_in m
 
-  bytes : All Bytes ss
+  bytes : AllByRecursion Bytes ss
   bytes = bytes_chunks (length m / 512) m small
 
   by_reading : Sectored m → (r : Reading) → read_sectors ss ≡ r → Judged m (read_verdict r)

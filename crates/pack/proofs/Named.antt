@@ -1,6 +1,6 @@
 -- The names that stand in the sectors of blocks. Assumes nothing.
 use Rattle.std.proofs.Common.{◌≡◌, ℕ, zero, suc, ◌+◌, ◌<◌, Bool, true, false, ◌||◌, List, [], ◌∷◌, ◌++◌, length, get_or, take, drop, is_some, Some, None, Option, sym, refl, ap, ◌∙◌, arith, MatchOption}
-use Rattle.std.specs.List.{AllByRecursion as All}
+use Rattle.std.specs.List.{AllByRecursion}
 use Rattle.std.specs.Str.{bytes_eq}
 use Rattle.std.proofs.lemmas.Slice.Eq.{bytes_eq-Decides}
 use Rattle.std.proofs.lemmas.List.{take_more}
@@ -42,7 +42,7 @@ any_parts name part (suc k) block other long =
     ∙ ap (λ n. bytes_eq n other || bytes_eq name other) (sector_name 1 part name (take 468 block) long)
     ∙ or_self (bytes_eq name other)
 
-pub any_blocks : (ps : List Pair) (name : List ℕ) → All Fits ps → any_named (blocks ps) name ≡ named ps name
+pub any_blocks : (ps : List Pair) (name : List ℕ) → AllByRecursion Fits ps → any_named (blocks ps) name ≡ named ps name
 any_blocks [] name fit = refl
 any_blocks (p ∷ ps) name fit =
     any_append (block_sectors p.name p.block) (blocks ps) name

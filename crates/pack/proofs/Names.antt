@@ -1,5 +1,5 @@
 -- Names that are apart. Assumes nothing.
-use Rattle.std.proofs.Common.{◌≡◌, ℕ, Bool, true, false, ◌||◌, List, [], ◌∷◌, ◌++◌, Decides, sym, refl, ap, ◌∙◌, rules}
+use Rattle.std.proofs.Common.{◌≡◌, ℕ, Bool, true, false, ◌||◌, List, [], ◌∷◌, ◌++◌, sym, refl, ap, ◌∙◌, rules}
 use Rattle.std.specs.Str.{bytes_eq}
 use Rattle.std.proofs.ByRecursion.{All-push}
 use Rattle.std.proofs.lemmas.Slice.Eq.{bytes_eq-Decides}
@@ -37,7 +37,3 @@ apart_push (p ∷ ps) q apart fresh =
 
 pub sound_push : (ps : List Pair) (q : Pair) → Sound ps → Fits q → named ps q.name ≡ false → Sound (ps ++ (q ∷ []))
 sound_push ps q sound fits fresh = record { fit = All-push Fits ps q sound.fit fits; apart = apart_push ps q sound.apart fresh }
-
--- a test that decides equality is this one
-pub as_test : (xs ys : List ℕ) (r : Bool) → Decides r (xs ≡ ys) → r ≡ bytes_eq xs ys
-as_test xs ys r h = search (rules, bytes_eq-Decides)

@@ -1,6 +1,6 @@
 -- A pack that was made of sound pairs is read as these pairs. Assumes nothing.
 use Rattle.std.proofs.Common.{◌≡◌, ℕ, zero, suc, ◌+◌, ◌-◌, ◌*◌, ◌/◌, ◌<◌, ◌≤◌, Bool, true, false, cond, eqb, List, [], ◌∷◌, ◌++◌, length, take, drop, replicate, Some, sym, refl, ap, ◌∙◌, subst, arith}
-use Rattle.std.specs.List.{AllByRecursion as All}
+use Rattle.std.specs.List.{AllByRecursion}
 use Rattle.std.specs.Str.{bytes_eq}
 use Rattle.std.proofs.lemmas.List.{append_assoc, append-nil, length-append, length-drop, length-take-le, take-append-drop}
 use Rattle.std.proofs.lemmas.Bool.{ne_eqb, eqb-true, eqb-false}
@@ -119,7 +119,7 @@ read_block pairs p at rest fits fresh =
     ∙ read_parts k pairs p.name 0 [] p.block at rest fits.name_length (block_cut (length p.block) fits.block_length)
     ∙ ap (λ n. read_from (between (pairs ++ (p ∷ []))) (at + n) rest) (sym (length-parts p.name 0 k p.block))
 
-pub read_blocks : (pairs more : List Pair) (at : ℕ) (rest : List (List ℕ)) → All Fits more → Apart (pairs ++ more) → read_from (between pairs) at (blocks more ++ rest) ≡ read_from (between (pairs ++ more)) (at + length (blocks more)) rest
+pub read_blocks : (pairs more : List Pair) (at : ℕ) (rest : List (List ℕ)) → AllByRecursion Fits more → Apart (pairs ++ more) → read_from (between pairs) at (blocks more ++ rest) ≡ read_from (between (pairs ++ more)) (at + length (blocks more)) rest
 read_blocks pairs [] at rest fit apart =
     let here : at + 0 ≡ at = omega arith in
     let all : pairs ++ [] ≡ pairs = append-nil pairs in

@@ -1,6 +1,6 @@
 -- The steps of the scan. Assumes nothing.
 use Rattle.std.proofs.Common.{◌≡◌, ℕ, suc, ◌+◌, ◌-◌, ◌<◌, ◌≤◌, Bool, true, false, cond, ◌⊎◌, List, [], ◌∷◌, ◌++◌, length, get_or, take, drop, Some, None, Ok, Err, Option, sym, refl, ap, ◌∙◌, subst, ⊎_elim, arith}
-use Rattle.std.specs.List.{AllByRecursion as All}
+use Rattle.std.specs.List.{AllByRecursion}
 use Rattle.std.specs.Str.{bytes_eq}
 use Rattle.std.proofs.ByRecursion.{All-get_or}
 use Rattle.std.proofs.lemmas.Slice.Eq.{bytes_eq-Decides}
@@ -65,7 +65,7 @@ pub scan_good : (ss : List (List ℕ)) (at : ℕ) (b : Between ss at) → at ≡
 scan_good ss at b = sym (length-take-le at ss b.upto) ∙ ap length b.is
 
 -- a block begins
-pub inside_start : (ss : List (List ℕ)) (at : ℕ) → Between ss at → All Whole ss → at < length ss → bytes_eq (get_or ss at []) unused_sector ≡ false → any_named (take at ss) (name_of (get_or ss at [])) ≡ false → Inside ss at (name_of (get_or ss at [])) 0
+pub inside_start : (ss : List (List ℕ)) (at : ℕ) → Between ss at → AllByRecursion Whole ss → at < length ss → bytes_eq (get_or ss at []) unused_sector ≡ false → any_named (take at ss) (name_of (get_or ss at [])) ≡ false → Inside ss at (name_of (get_or ss at [])) 0
 inside_start ss at b whole within used fresh =
     let s = get_or ss at [] in
     let name = name_of s in
@@ -102,7 +102,7 @@ bad_part ss at name part i stops never same =
     let none : step (length ss - (at + 1)) (inside i.pairs name part i.bytes) (get_or ss at []) ≡ None = rw (same, stops, never) in
     sym i.reads ∙ read_by (inside i.pairs name part i.bytes) ss at None i.within none
 
-pub inside_more : (ss : List (List ℕ)) (at : ℕ) (name : List ℕ) (part : ℕ) → All Whole ss → Inside ss at name part → bytes_eq (name_of (get_or ss at [])) name ≡ true → goes_on (length ss - (at + 1)) part (get_or ss at []) ≡ true → Inside ss (at + 1) name (part + 1)
+pub inside_more : (ss : List (List ℕ)) (at : ℕ) (name : List ℕ) (part : ℕ) → AllByRecursion Whole ss → Inside ss at name part → bytes_eq (name_of (get_or ss at [])) name ≡ true → goes_on (length ss - (at + 1)) part (get_or ss at []) ≡ true → Inside ss (at + 1) name (part + 1)
 inside_more ss at name part whole i same more =
     let s = get_or ss at [] in
     let left : ℕ = length ss - (at + 1) in
@@ -124,7 +124,7 @@ inside_more ss at name part whole i same more =
         let next : step (length ss - (at + 1)) (inside i.pairs name part i.bytes) s ≡ Some (inside i.pairs name (part + 1) (i.bytes ++ payload_of 468 s)) = rw (same, more) in
         sym (read_by (inside i.pairs name part i.bytes) ss at (Some (inside i.pairs name (part + 1) (i.bytes ++ payload_of 468 s))) i.within next)
 
-pub inside_last : (ss : List (List ℕ)) (at : ℕ) (name : List ℕ) (part : ℕ) → All Whole ss → Inside ss at name part → bytes_eq (name_of (get_or ss at [])) name ≡ true → goes_on (length ss - (at + 1)) part (get_or ss at []) ≡ false → ends part (get_or ss at []) ≡ true → Between ss (at + 1)
+pub inside_last : (ss : List (List ℕ)) (at : ℕ) (name : List ℕ) (part : ℕ) → AllByRecursion Whole ss → Inside ss at name part → bytes_eq (name_of (get_or ss at [])) name ≡ true → goes_on (length ss - (at + 1)) part (get_or ss at []) ≡ false → ends part (get_or ss at []) ≡ true → Between ss (at + 1)
 inside_last ss at name part whole i same stops over =
     let s = get_or ss at [] in
     let left : ℕ = length ss - (at + 1) in

@@ -2,14 +2,14 @@
 --
 --   whole_sectors    every sector of memory has 512 bytes
 --   cost_least       a block takes at least one sector
---   FitState        what was read up to a state keeps the limits
+--   FitState         what was read up to a state keeps the limits
 --   pack_lawful      a pack holds blocks within the limit under names of 32 bytes
 --
 -- Assumes nothing.
 use Rattle.std.specs.Prelude.{◌≡◌, ℕ, zero, suc, ◌+◌, ◌*◌, ◌/◌, ◌≤◌, Bool, true, false, cond, ◌&&◌, leb, List, [], ◌∷◌, ◌++◌, length, drop, Some, None, Option, ◌==◌, ◌≢◌, nat_le, refl}
 use Rattle.std.proofs.Common.{sym, ap, subst, ◌∙◌, suc-mul, arith}
 use Rattle.std.specs.Simd.{first_chunks}
-use Rattle.std.specs.List.{AllByRecursion as All}
+use Rattle.std.specs.List.{AllByRecursion}
 use Rattle.std.specs.Str.{bytes_eq}
 use Rattle.std.proofs.ByRecursion.{All-push}
 use Rattle.std.proofs.lemmas.Slice.Eq.{bytes_eq-Decides}
@@ -22,14 +22,14 @@ use Rattle.pack.specs.Pack.{Fits, named, sector_cost, sectors_in}
 use Rattle.pack.specs.Reader.{State, between, inside, ended, bad, ends, fewest, goes_on, part_step, read_from, read_next, read_sectors, step}
 use Rattle.pack.specs.Sector.{count_of, last, name_of, payload_of, sector, unused_sector}
 
-pub whole_chunks : (k : ℕ) (m : List ℕ) → k * 512 ≤ length m → All (λ s. length s ≡ 512) (first_chunks 512 k m)
+pub whole_chunks : (k : ℕ) (m : List ℕ) → k * 512 ≤ length m → AllByRecursion (λ s. length s ≡ 512) (first_chunks 512 k m)
 whole_chunks zero m room = tt
 whole_chunks (suc k) m room = (
   length-take-le 512 m (omega (arith, suc-mul k 512)),
   whole_chunks k (drop 512 m) (omega (arith, suc-mul k 512, length-drop 512 m)),
 )
 
-pub whole_sectors : (m : List ℕ) → All (λ s. length s ≡ 512) (sectors_in m)
+pub whole_sectors : (m : List ℕ) → AllByRecursion (λ s. length s ≡ 512) (sectors_in m)
 whole_sectors m = whole_chunks (length m / 512) m (omega arith)
 
 pub cost_least : (len : ℕ) → 1 ≤ sector_cost len
@@ -39,9 +39,9 @@ cost_least len = by_test (len == 0) refl where
   by_test false e = let some = eqb-false len 0 e in omega arith
 
 abbrev FitState : State → Type 0
-FitState (between pairs) = All Fits pairs
-FitState (inside pairs name part bytes) = All Fits pairs × ((length name ≡ 32) × (length bytes ≤ part * 468))
-FitState (ended pairs n) = All Fits pairs
+FitState (between pairs) = AllByRecursion Fits pairs
+FitState (inside pairs name part bytes) = AllByRecursion Fits pairs × ((length name ≡ 32) × (length bytes ≤ part * 468))
+FitState (ended pairs n) = AllByRecursion Fits pairs
 
 fit-pair : (part : ℕ) (name bytes s : List ℕ) → length name ≡ 32 → length bytes ≤ part * 468 → ends part s ≡ true → Fits (record { name = name; block = bytes ++ payload_of (count_of s) s })
 unfolding ends
@@ -60,7 +60,7 @@ fit-pair part name bytes s long short e =
 none_some : (after : State) → None ≢ Some after
 none_some after e = let z : ◌≡◌ {A = ℕ} 0 1 = cc in omega arith
 
-part_fits : (left : ℕ) (pairs : List Pair) (name : List ℕ) (part : ℕ) (bytes s : List ℕ) (after : State) → All Fits pairs → length name ≡ 32 → length bytes ≤ part * 468 → part_step left pairs name part bytes s ≡ Some after → FitState after
+part_fits : (left : ℕ) (pairs : List Pair) (name : List ℕ) (part : ℕ) (bytes s : List ℕ) (after : State) → AllByRecursion Fits pairs → length name ≡ 32 → length bytes ≤ part * 468 → part_step left pairs name part bytes s ≡ Some after → FitState after
 part_fits left pairs name part bytes s after fit long short is = by_name (bytes_eq (name_of s) name) is where
   by_end : (b : Bool) → ends part s ≡ b → cond b (Some (between (pairs ++ (record { name = name; block = bytes ++ payload_of (count_of s) s } ∷ [])))) None ≡ Some after → FitState after
   by_end true e i =
@@ -93,23 +93,23 @@ step_fits left (ended pairs n) s after whole fit is = by_use (bytes_eq s unused_
   by_use true i = let q : ended pairs (n + 1) ≡ after = cc in subst FitState q fit
   by_use false i = absurd (none_some after i)
 
-read_fits : (ss : List (List ℕ)) (state : State) (at : ℕ) → All (λ s. length s ≡ 512) ss → FitState state → All Fits (pairs_read (read_from state at ss))
+read_fits : (ss : List (List ℕ)) (state : State) (at : ℕ) → AllByRecursion (λ s. length s ≡ 512) ss → FitState state → AllByRecursion Fits (pairs_read (read_from state at ss))
 read_fits [] (between pairs) at whole fit = fit
 read_fits [] (inside pairs name part bytes) at whole fit = tt
 read_fits [] (ended pairs n) at whole fit = fit
 read_fits (s ∷ ss) state at whole fit = by_step (λ after. read_fits ss after (at + 1) whole.1) (step (length ss) state s) refl where
-  by_step : ((after : State) → FitState after → All Fits (pairs_read (read_from after (at + 1) ss))) → (o : Option State) → step (length ss) state s ≡ o → All Fits (pairs_read (read_next o (λ after. read_from after (at + 1) ss) at))
+  by_step : ((after : State) → FitState after → AllByRecursion Fits (pairs_read (read_from after (at + 1) ss))) → (o : Option State) → step (length ss) state s ≡ o → AllByRecursion Fits (pairs_read (read_next o (λ after. read_from after (at + 1) ss) at))
   by_step again None e = tt
   by_step again (Some after) e = again after (step_fits (length ss) state s after whole.0 fit e)
 
-memory_fits : (m : List ℕ) → All Fits (pairs_read (reading m))
+memory_fits : (m : List ℕ) → AllByRecursion Fits (pairs_read (reading m))
 unfolding reading
 memory_fits m = by_size (sectored m) where
-  by_size : (b : Bool) → All Fits (pairs_read (cond b (read_sectors (sectors_in m)) (bad 0)))
+  by_size : (b : Bool) → AllByRecursion Fits (pairs_read (cond b (read_sectors (sectors_in m)) (bad 0)))
   by_size true = read_fits (sectors_in m) (between []) 0 (whole_sectors m) tt
   by_size false = tt
 
-fits_held : (ps : List Pair) (name block : List ℕ) → All Fits ps → held_among ps name ≡ Some block → (length name ≡ 32) × (length block ≤ 10752)
+fits_held : (ps : List Pair) (name block : List ℕ) → AllByRecursion Fits ps → held_among ps name ≡ Some block → (length name ≡ 32) × (length block ≤ 10752)
 fits_held [] name block fit is = let z : ◌≡◌ {A = ℕ} 0 1 = cc in absurd (omega arith)
 fits_held (p ∷ ps) name block fit is = by_test (fits_held ps name block fit.1) (bytes_eq p.name name) refl is where
   by_test : (held_among ps name ≡ Some block → (length name ≡ 32) × (length block ≤ 10752)) → (b : Bool) → bytes_eq p.name name ≡ b → cond b (Some p.block) (held_among ps name) ≡ Some block → (length name ≡ 32) × (length block ≤ 10752)

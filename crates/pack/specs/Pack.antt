@@ -14,7 +14,7 @@
 -- Assumes nothing.
 use Rattle.std.specs.Prelude.{◌≡◌, ℕ, zero, suc, ◌+◌, ◌-◌, ◌/◌, ◌<◌, ◌≤◌, Bool, false, cond, ◌||◌, List, [], ◌∷◌, ◌++◌, length, take, drop, replicate, ◌==◌}
 use Rattle.std.specs.Simd.{first_chunks}
-use Rattle.std.specs.List.{AllByRecursion as All}
+use Rattle.std.specs.List.{AllByRecursion}
 use Rattle.std.specs.Str.{bytes_eq}
 use Rattle.store.specs.Runs.{Pair}
 use Rattle.pack.specs.Sector.{sector, unused_sector, more_follows, last}
@@ -59,7 +59,7 @@ Apart [] = Unit {0}
 Apart (p ∷ ps) = (named ps p.name ≡ false) × Apart ps
 
 pub record Sound (pairs : List Pair) : Type 0 where
-  pub fit : All Fits pairs
+  pub fit : AllByRecursion Fits pairs
   pub apart : Apart pairs
 
 pub record Good (sectors : List (List ℕ)) : Type 0 where
@@ -68,4 +68,4 @@ pub record Good (sectors : List (List ℕ)) : Type 0 where
   pub sound : Sound pairs
   pub is : sectors ≡ pack_sectors pairs unused
   -- every number is a byte
-  pub bytes : All (All (λ b. b < 256)) sectors
+  pub bytes : AllByRecursion (AllByRecursion (λ b. b < 256)) sectors

@@ -1,7 +1,7 @@
 -- What the walks over sectors answer.
 --
 --   any_named       whether a sector has a name where a part has its name
---   FirstNamed     the first sector that has it
+--   FirstNamed      the first sector that has it
 --   ended_reading   what is read where only unused sectors may come, from the first used one
 --   scanned         a reading as the scan answers it: how many sectors the blocks take, or the first bad sector
 --

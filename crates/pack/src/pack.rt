@@ -3,8 +3,8 @@ ghost use Rattle.std.specs.Prelude.{◌≡◌};
 ghost use Rattle.pack.specs.Memory.{free_in, used_in};
 
 mod add;
+mod calls;
 mod make;
-mod store;
 
 use crate::room::Room;
 

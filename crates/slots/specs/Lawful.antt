@@ -7,7 +7,7 @@
 use Rattle.std.specs.Prelude.{◌≡◌, ℕ, zero, suc, ◌*◌, ◌/◌, ◌≤◌, Bool, true, false, cond, List, [], ◌∷◌, length, drop, Some, Option, refl}
 use Rattle.std.proofs.Common.{sym, ap, subst, ◌∙◌, suc-mul, arith}
 use Rattle.std.specs.Simd.{first_chunks}
-use Rattle.std.specs.List.{AllByRecursion as All}
+use Rattle.std.specs.List.{AllByRecursion}
 use Rattle.std.specs.Str.{bytes_eq}
 use Rattle.std.proofs.lemmas.Slice.Eq.{bytes_eq-Decides}
 use Rattle.std.proofs.lemmas.List.{length-drop, length-take, length-take-le}
@@ -17,7 +17,7 @@ use Rattle.slots.specs.Memory.{holds, held_in, slots_in, slots_meaning}
 use Rattle.slots.specs.Slot.{is_used, slot_name, slot_length, slot_block}
 
 -- every slot is whole
-whole_chunks : (n k : ℕ) (m : List ℕ) → k * n ≤ length m → All (λ s. length s ≡ n) (first_chunks n k m)
+whole_chunks : (n k : ℕ) (m : List ℕ) → k * n ≤ length m → AllByRecursion (λ s. length s ≡ n) (first_chunks n k m)
 whole_chunks n zero m room = tt
 whole_chunks n (suc k) m room = (
   length-take-le n m (omega (arith, suc-mul k n)),
@@ -44,7 +44,7 @@ by_test : (slot name block : List ℕ) (rest : Option (List ℕ)) → length slo
 by_test slot name block rest whole later true here is = let e : slot_block slot ≡ block = cc in subst (λ b. Sized name b) e (sized_slot slot name whole here)
 by_test slot name block rest whole later false here is = later is
 
-sized : (ss : List (List ℕ)) (name block : List ℕ) → All (λ s. length s ≡ 10788) ss → held_in ss name ≡ Some block → Sized name block
+sized : (ss : List (List ℕ)) (name block : List ℕ) → AllByRecursion (λ s. length s ≡ 10788) ss → held_in ss name ≡ Some block → Sized name block
 sized [] name block whole is = let z : ◌≡◌ {A = ℕ} 0 1 = cc in absurd (omega arith)
 sized (s ∷ ss) name block whole is = by_test s name block (held_in ss name) whole.0 (sized ss name block whole.1) (holds s name) refl is
 

@@ -9,7 +9,7 @@
 --   Fresh       pairs whose names were not held, and are all different
 --   Grown       a store became another by more pairs, at their cost, and by nothing else
 --   Spent       so it did, and each pair cost a unit at least
---   AllSpent   whatever calls led to a store
+--   AllSpent    whatever calls led to a store
 --
 -- Assumes nothing.
 use Rattle.std.specs.Prelude.{◌≡◌, ℕ, ◌+◌, ◌-◌, ◌≤◌, List, [], ◌∷◌, length, Some, None, Option}

@@ -1,7 +1,7 @@
 -- The scan goes as the reader does.
 use Rattle.std.proofs.Common.{◌≡◌, ◌+◌, ◌-◌, ◌<◌, true, false, ◌⊎◌, [], length, get_or, take, Some, None, sym, ap, ◌∙◌, subst, inl, inr, arith}
 use native.Mathlib.Nat.{sub-zero}
-use Rattle.std.specs.List.{AllByRecursion as All}
+use Rattle.std.specs.List.{AllByRecursion}
 use Rattle.std.specs.Str.{bytes_eq}
 use Rattle.pack.specs.Lawful.{whole_sectors}
 use Rattle.pack.specs.Reader.{goes_on}
@@ -11,78 +11,78 @@ use Rattle.pack.proofs.Bads.{Whole}
 use Rattle.pack.proofs.Named.{none_named, some_named}
 use Rattle.pack.proofs.Scans.{bad_name, bad_part, bad_part_name, between_start, inside_last, inside_more, inside_start, scan_ends, scan_good, told_bad, told_good}
 use Rattle.pack.proofs.scan.scan.Goals as goal
-use Rattle.pack.proofs.scan.scan.Goals.{then-at-count-via-then-at-count, then-at-count-via-else-at-count+then-is-unused}
+use Rattle.pack.proofs.scan.scan.Goals.{then-at-count-via-then-at-count, then-at-count-via-else-at-count+then-is_unused}
 
 pub scan-init : goal.scan-init
-scan-init c = between_start c.as-chunks.result.0.now
+scan-init c = between_start c.as_chunks.result.0.now
 
 pub returns-in-None : goal.returns-in-None
 returns-in-None c =
-    let ss = c.as-chunks.result.0.now in
+    let ss = c.as_chunks.result.0.now in
     let at = c.scan.at in
     let unused : (at ≡ length ss) ⊎ ((at < length ss) × (bytes_eq (get_or ss at []) unused_sector ≡ true)) = elim c.then-at-count.branch [
       | then-at-count-via-then-at-count w ↦ inl w.if-at-count.true
-      | then-at-count-via-else-at-count+then-is-unused w ↦ inr (omega (arith, w.if-at-count.false, c.scan.invariant.upto), sym w.if-is-unused.ensures)
+      | then-at-count-via-else-at-count+then-is_unused w ↦ inr (omega (arith, w.if-at-count.false, c.scan.invariant.upto), sym w.if-is_unused.ensures)
     ] in
-    told_good ss c.args.memory.now at c.scan.invariant.pairs (0 + (length ss - at)) c.as-chunks.ensures.front (scan_ends ss at c.scan.invariant None unused c.in-None.ensures) (scan_good ss at c.scan.invariant)
+    told_good ss c.args.memory.now at c.scan.invariant.pairs (0 + (length ss - at)) c.as_chunks.ensures.front (scan_ends ss at c.scan.invariant None unused c.in-None.ensures) (scan_good ss at c.scan.invariant)
 
 pub parts-init : goal.parts-init
 parts-init c =
-    let ss = c.as-chunks.result.0.now in
+    let ss = c.as_chunks.result.0.now in
     let at = c.scan.at in
-    let whole : All Whole ss = subst (λ xs. All Whole xs) (sym c.as-chunks.ensures.front) (whole_sectors c.args.memory.now) in
+    let whole : AllByRecursion Whole ss = subst (λ xs. AllByRecursion Whole xs) (sym c.as_chunks.ensures.front) (whole_sectors c.args.memory.now) in
     let within : at < length ss = omega (arith, c.if-at-count.false, c.scan.invariant.upto) in
-    let fresh : any_named (take at ss) (name_of (get_or ss at [])) ≡ false = ap (λ n. any_named (take n ss) (name_of (get_or ss at []))) (sym (sub-zero at)) ∙ none_named (take (at - 0) ss) (name_of (get_or ss at [])) c.first-named.result c.first-named.ensures (sym c.if-is-some.ensures) in
-    (omega arith, inside_start ss at c.scan.invariant whole within (sym c.if-is-unused.ensures) fresh)
+    let fresh : any_named (take at ss) (name_of (get_or ss at [])) ≡ false = ap (λ n. any_named (take n ss) (name_of (get_or ss at []))) (sym (sub-zero at)) ∙ none_named (take (at - 0) ss) (name_of (get_or ss at [])) c.first_named.result c.first_named.ensures (sym c.if-is_some.ensures) in
+    (omega arith, inside_start ss at c.scan.invariant whole within (sym c.if-is_unused.ensures) fresh)
 
 pub parts-preserved : goal.parts-preserved
 parts-preserved c =
-    let ss = c.as-chunks.result.0.now in
+    let ss = c.as_chunks.result.0.now in
     let at = c.parts.at in
-    let whole : All Whole ss = subst (λ xs. All Whole xs) (sym c.as-chunks.ensures.front) (whole_sectors c.args.memory.now) in
+    let whole : AllByRecursion Whole ss = subst (λ xs. AllByRecursion Whole xs) (sym c.as_chunks.ensures.front) (whole_sectors c.args.memory.now) in
     let left : length ss - at - 1 ≡ length ss - (at + 1) = omega arith in
-    let more : goes_on (length ss - (at + 1)) c.parts.part (get_or ss at []) ≡ true = ap (λ n. goes_on n c.parts.part (get_or ss at [])) (sym left) ∙ sym c.if-goes-on.ensures in
-    (omega (arith, c.parts.invariant.0), inside_more ss at _ c.parts.part whole c.parts.invariant.1 (sym c.if-not-has-name.ensures) more)
+    let more : goes_on (length ss - (at + 1)) c.parts.part (get_or ss at []) ≡ true = ap (λ n. goes_on n c.parts.part (get_or ss at [])) (sym left) ∙ sym c.if-goes_on.ensures in
+    (omega (arith, c.parts.invariant.0), inside_more ss at _ c.parts.part whole c.parts.invariant.1 (sym c.if-not-has_name.ensures) more)
 
 pub scan-smaller : goal.scan-smaller
 scan-smaller c = omega (arith, c.parts.invariant.0, c.parts.invariant.1.within)
 
 pub scan-preserved : goal.scan-preserved
 scan-preserved c =
-    let ss = c.as-chunks.result.0.now in
+    let ss = c.as_chunks.result.0.now in
     let at = c.parts.at in
-    let whole : All Whole ss = subst (λ xs. All Whole xs) (sym c.as-chunks.ensures.front) (whole_sectors c.args.memory.now) in
+    let whole : AllByRecursion Whole ss = subst (λ xs. AllByRecursion Whole xs) (sym c.as_chunks.ensures.front) (whole_sectors c.args.memory.now) in
     let left : length ss - at - 1 ≡ length ss - (at + 1) = omega arith in
-    let stops : goes_on (length ss - (at + 1)) c.parts.part (get_or ss at []) ≡ false = ap (λ n. goes_on n c.parts.part (get_or ss at [])) (sym left) ∙ sym c.if-goes-on.ensures in
-    inside_last ss at _ c.parts.part whole c.parts.invariant.1 (sym c.if-not-has-name.ensures) stops (sym c.if-not-ends.ensures)
+    let stops : goes_on (length ss - (at + 1)) c.parts.part (get_or ss at []) ≡ false = ap (λ n. goes_on n c.parts.part (get_or ss at [])) (sym left) ∙ sym c.if-goes_on.ensures in
+    inside_last ss at _ c.parts.part whole c.parts.invariant.1 (sym c.if-not-has_name.ensures) stops (sym c.if-not-ends.ensures)
 
 pub returns-in-Some : goal.returns-in-Some
 returns-in-Some c =
-    let ss = c.as-chunks.result.0.now in
+    let ss = c.as_chunks.result.0.now in
     let at = c.scan.at in
     let unused : (at ≡ length ss) ⊎ ((at < length ss) × (bytes_eq (get_or ss at []) unused_sector ≡ true)) = elim c.then-at-count.branch [
       | then-at-count-via-then-at-count w ↦ inl w.if-at-count.true
-      | then-at-count-via-else-at-count+then-is-unused w ↦ inr (omega (arith, w.if-at-count.false, c.scan.invariant.upto), sym w.if-is-unused.ensures)
+      | then-at-count-via-else-at-count+then-is_unused w ↦ inr (omega (arith, w.if-at-count.false, c.scan.invariant.upto), sym w.if-is_unused.ensures)
     ] in
-    told_bad ss c.args.memory.now c.in-Some.used c.as-chunks.ensures.front (scan_ends ss at c.scan.invariant (Some c.in-Some.used) unused c.in-Some.ensures)
+    told_bad ss c.args.memory.now c.in-Some.used c.as_chunks.ensures.front (scan_ends ss at c.scan.invariant (Some c.in-Some.used) unused c.in-Some.ensures)
 
-pub returns-then-is-some : goal.returns-then-is-some
-returns-then-is-some c =
-    let ss = c.as-chunks.result.0.now in
+pub returns-then-is_some : goal.returns-then-is_some
+returns-then-is_some c =
+    let ss = c.as_chunks.result.0.now in
     let at = c.scan.at in
     let within : at < length ss = omega (arith, c.if-at-count.false, c.scan.invariant.upto) in
-    let twice : any_named (take at ss) (name_of (get_or ss at [])) ≡ true = ap (λ n. any_named (take n ss) (name_of (get_or ss at []))) (sym (sub-zero at)) ∙ some_named (take (at - 0) ss) (name_of (get_or ss at [])) c.first-named.result c.first-named.ensures (sym c.if-is-some.ensures) in
-    told_bad ss c.args.memory.now at c.as-chunks.ensures.front (bad_name ss at c.scan.invariant within (sym c.if-is-unused.ensures) twice)
+    let twice : any_named (take at ss) (name_of (get_or ss at [])) ≡ true = ap (λ n. any_named (take n ss) (name_of (get_or ss at []))) (sym (sub-zero at)) ∙ some_named (take (at - 0) ss) (name_of (get_or ss at [])) c.first_named.result c.first_named.ensures (sym c.if-is_some.ensures) in
+    told_bad ss c.args.memory.now at c.as_chunks.ensures.front (bad_name ss at c.scan.invariant within (sym c.if-is_unused.ensures) twice)
 
-pub returns-then-not-has-name : goal.returns-then-not-has-name
-returns-then-not-has-name c =
-    let ss = c.as-chunks.result.0.now in
-    told_bad ss c.args.memory.now c.parts.at c.as-chunks.ensures.front (bad_part_name ss c.parts.at _ c.parts.part c.parts.invariant.1 (sym c.if-not-has-name.ensures))
+pub returns-then-not-has_name : goal.returns-then-not-has_name
+returns-then-not-has_name c =
+    let ss = c.as_chunks.result.0.now in
+    told_bad ss c.args.memory.now c.parts.at c.as_chunks.ensures.front (bad_part_name ss c.parts.at _ c.parts.part c.parts.invariant.1 (sym c.if-not-has_name.ensures))
 
 pub returns-then-not-ends : goal.returns-then-not-ends
 returns-then-not-ends c =
-    let ss = c.as-chunks.result.0.now in
+    let ss = c.as_chunks.result.0.now in
     let at = c.parts.at in
     let left : length ss - at - 1 ≡ length ss - (at + 1) = omega arith in
-    let stops : goes_on (length ss - (at + 1)) c.parts.part (get_or ss at []) ≡ false = ap (λ n. goes_on n c.parts.part (get_or ss at [])) (sym left) ∙ sym c.if-goes-on.ensures in
-    told_bad ss c.args.memory.now at c.as-chunks.ensures.front (bad_part ss at _ c.parts.part c.parts.invariant.1 stops (sym c.if-not-ends.ensures) (sym c.if-not-has-name.ensures))
+    let stops : goes_on (length ss - (at + 1)) c.parts.part (get_or ss at []) ≡ false = ap (λ n. goes_on n c.parts.part (get_or ss at [])) (sym left) ∙ sym c.if-goes_on.ensures in
+    told_bad ss c.args.memory.now at c.as_chunks.ensures.front (bad_part ss at _ c.parts.part c.parts.invariant.1 stops (sym c.if-not-ends.ensures) (sym c.if-not-has_name.ensures))

@@ -8,4 +8,4 @@ pub returns : goal.returns
 unfolding unused_sector
 returns c =
     let whole : length c.args.sector.now ≡ 512 = search rules in
-    c.is-zero.ensures ∙ ap (λ n. bytes_eq c.args.sector.now (zeros n)) whole
+    c.is_zero.ensures ∙ ap (λ n. bytes_eq c.args.sector.now (zeros n)) whole

@@ -5,12 +5,12 @@ use Rattle.pack.proofs.sector.weigh.Goals as goal
 
 bounded : (c : goal.After-from) → c.loop-i.sum + (c.loop-i.i + 1) * c.from.result ≤ (c.loop-i.i + 1) * 129540
 bounded c =
-    let byte : get_or c.args.bytes.now c.loop-i.i 0 < 256 = (c.type-inv.bytes c.loop-i.i).fits in
+    let byte : get_or c.args.bytes.now c.loop-i.i 0 < 256 = (c.type_inv.bytes c.loop-i.i).fits in
     let small : c.from.result < 256 = omega (arith, c.from.ensures) in
     term_bound c.loop-i.sum c.loop-i.i c.from.result c.loop-i.invariant.0 (omega (arith, c.requires, c.loop-i-test.true)) small
 
-pub overflow-add-sum-in-loop-i : goal.overflow-add-sum-in-loop-i
-overflow-add-sum-in-loop-i c = omega (arith, bounded c, c.requires, c.loop-i-test.true)
+pub overflow_add-sum-in-loop-i : goal.overflow_add-sum-in-loop-i
+overflow_add-sum-in-loop-i c = omega (arith, bounded c, c.requires, c.loop-i-test.true)
 
 pub loop-i-preserved : goal.loop-i-preserved
 loop-i-preserved c =

@@ -15,16 +15,16 @@ returns c =
           c.args.name.now.bytes
           c.args.payload.now
           c.clear.new.bytes
-          c.copy-from-slice.new.self
-          c.copy-from-slice-2.new.self
-          c.copy-from-slice-3.new.self
-          c.copy-from-slice-4.new.self
+          c.copy_from_slice.new.self
+          c.copy_from_slice-2.new.self
+          c.copy_from_slice-3.new.self
+          c.copy_from_slice-4.new.self
           long
           c.requires.short
           (c.clear.ensures ∙ ap zeros c.requires.size)
-          (c.copy-from-slice.ensures.after ∙ c.head-of.ensures)
-          c.copy-from-slice-2.ensures.after
-          c.copy-from-slice-3.ensures.after
-          (c.copy-from-slice-4.ensures.after ∙ c.to-be-bytes-sum.ensures ∙ ap four_bytes c.weigh.ensures);
-      name-size = long;
+          (c.copy_from_slice.ensures.after ∙ c.head_of.ensures)
+          c.copy_from_slice-2.ensures.after
+          c.copy_from_slice-3.ensures.after
+          (c.copy_from_slice-4.ensures.after ∙ c.to_be_bytes-sum.ensures ∙ ap four_bytes c.weigh.ensures);
+      name_size = long;
     }

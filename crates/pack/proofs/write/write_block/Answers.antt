@@ -19,28 +19,28 @@ loop-part-preserved c =
     let place = c.args.place in
     let block = c.args.block.now in
     let cut = block_cut (length block) c.requires.short in
-    let within : place + part < length ss = omega (arith, sector-count c.args.memory.now, c.requires.room, c.loop-part-test.true, c.sectors-for-full.ensures) in
-    let room : (part + 1) * 468 ≤ length block = omega (arith, cut.least, c.loop-part-test.true, c.sectors-for-full.ensures) in
-    c.write-part.ensures.after
+    let within : place + part < length ss = omega (arith, sector-count c.args.memory.now, c.requires.room, c.loop-part-test.true, c.sectors_for-full.ensures) in
+    let room : (part + 1) * 468 ≤ length block = omega (arith, cut.least, c.loop-part-test.true, c.sectors_for-full.ensures) in
+    c.write_part.ensures.after
     ∙ ap (λ xs. set xs (place + part) (sector 1 part c.args.name.now.bytes (take (part * 468 + 468 - part * 468) (drop (part * 468) block)))) c.loop-part.invariant
     ∙ written_more ss place c.args.name.now.bytes block _ part within room refl
 
 pub returns : goal.returns
 returns c =
     let ss = sectors_in c.args.memory.now in
-    let full = c.sectors-for-full.result - 1 in
+    let full = c.sectors_for-full.result - 1 in
     let place = c.args.place in
     let name = c.args.name.now.bytes in
     let block = c.args.block.now in
-    let count : full ≡ sector_cost (length block) - 1 = ap (λ n. n - 1) c.sectors-for-full.ensures in
+    let count : full ≡ sector_cost (length block) - 1 = ap (λ n. n - 1) c.sectors_for-full.ensures in
     let upto : c.loop-part.part ≡ full = omega arith in
     let room : place + sector_cost (length block) ≤ length ss = omega (arith, sector-count c.args.memory.now, c.requires.room) in
     let w = sector 2 full name (take (length block - full * 468) (drop (full * 468) block)) in
     record {
       after =
-          c.write-part-2.ensures.after
+          c.write_part-2.ensures.after
           ∙ ap (λ xs. set xs (place + full) w) (c.loop-part.invariant ∙ ap (so_far ss place name block) upto)
           ∙ written_last ss place name block w full count c.requires.short room (ap (sector 2 full name) (take_rest block (full * 468)));
       end = omega (arith, count, cost_least (length block));
-      name-size = c.write-part-2.ensures.name-size;
+      name_size = c.write_part-2.ensures.name_size;
     }

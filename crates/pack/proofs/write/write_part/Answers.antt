@@ -6,6 +6,6 @@ use Rattle.pack.proofs.write.write_part.Goals as goal
 pub returns : goal.returns
 returns c =
     record {
-      after = sector_changed (λ s. sector c.args.kind c.args.part c.args.name.now.bytes c.args.payload.now) c.args.memory.now c.fill-part.new.sector c.args.place c.requires.within c.fill-part.auto.sector c.fill-part.ensures.after;
-      name-size = c.fill-part.ensures.name-size;
+      after = sector_changed (λ s. sector c.args.kind c.args.part c.args.name.now.bytes c.args.payload.now) c.args.memory.now c.fill_part.new.sector c.args.place c.requires.within c.fill_part.auto.sector c.fill_part.ensures.after;
+      name_size = c.fill_part.ensures.name_size;
     }

@@ -7,12 +7,12 @@ use Rattle.slots.proofs.Adds.{pair_added, some_unused}
 use Rattle.slots.proofs.Cuts.{slot_count}
 use Rattle.slots.proofs.memory.add_pair.Goals as goal
 
-pub returns-in-default : goal.returns-in-default
-returns-in-default c =
+pub returns-in_default : goal.returns-in_default
+returns-in_default c =
     let m = slots_meaning c.args.memory.now in
     let name = c.args.name.now.bytes in
     let block = c.args.block.now in
-    let o = outcome_full m name block c.requires.short c.requires.absent (omega (arith, c.in-default.ensures)) in
+    let o = outcome_full m name block c.requires.short c.requires.absent (omega (arith, c.in_default.ensures)) in
     record { answer = sym (ap answer_of o); after = sym (ap (λ k. left_by k m name block) o); rest = refl }
 
 pub returns : goal.returns
@@ -29,7 +29,7 @@ returns c =
     record {
       answer = sym (ap answer_of o);
       after =
-          pair_added memory c.fill-place.new.memory place name block within free c.requires.absent c.fill-place.ensures.name-size c.requires.short c.fill-place.ensures.after
+          pair_added memory c.fill_place.new.memory place name block within free c.requires.absent c.fill_place.ensures.name_size c.requires.short c.fill_place.ensures.after
           ∙ sym (ap (λ k. left_by k m name block) o);
-      rest = c.fill-place.ensures.rest;
+      rest = c.fill_place.ensures.rest;
     }

@@ -8,5 +8,5 @@ returns c =
     record {
       after = slot_changed (filled c.args.name.now.bytes c.args.block.now) c.args.memory.now c.fill.new.slot c.args.place c.requires.within c.fill.auto.slot c.fill.ensures.after;
       rest = left_over_kept c.args.memory.now c.fill.new.slot c.args.place c.requires.within c.fill.auto.slot;
-      name-size = c.fill.ensures.name-size;
+      name_size = c.fill.ensures.name_size;
     }

@@ -7,11 +7,11 @@ use Rattle.slots.proofs.memory.find_unused.Goals as goal
 
 pub loop-i-preserved : goal.loop-i-preserved
 loop-i-preserved c =
-    sym (unused_skip c.as-chunks.result.0.now c.loop-i.i c.loop-i-test.true (sym c.if-not-in-use.ensures))
+    sym (unused_skip c.as_chunks.result.0.now c.loop-i.i c.loop-i-test.true (sym c.if-not-in_use.ensures))
     ∙ c.loop-i.invariant
 
 pub returns : goal.returns
 returns c =
-    ap unused (sym c.as-chunks.ensures.front)
+    ap unused (sym c.as_chunks.ensures.front)
     ∙ sym c.loop-i.invariant
-    ∙ at_drop_all unused c.as-chunks.result.0.now c.loop-i.i c.loop-i-test.false
+    ∙ at_drop_all unused c.as_chunks.result.0.now c.loop-i.i c.loop-i-test.false

@@ -12,12 +12,12 @@ returns c =
           c.args.name.now.bytes
           c.args.block.now
           c.args.slot.now
-          c.copy-from-slice.new.self
-          c.copy-from-slice-2.new.self
-          c.copy-from-slice-3.new.self
+          c.copy_from_slice.new.self
+          c.copy_from_slice-2.new.self
+          c.copy_from_slice-3.new.self
           long
-          c.copy-from-slice.ensures.after
-          (c.copy-from-slice-2.ensures.after ∙ c.to-be-bytes.ensures)
-          c.copy-from-slice-3.ensures.after;
-      name-size = long;
+          c.copy_from_slice.ensures.after
+          (c.copy_from_slice-2.ensures.after ∙ c.to_be_bytes.ensures)
+          c.copy_from_slice-3.ensures.after;
+      name_size = long;
     }

@@ -5,7 +5,7 @@ use Rattle.slots.proofs.Names.{named}
 use Rattle.slots.proofs.slot.has_name.Goals as goal
 use Rattle.std.proofs.lemmas.Bool.Decides.{Decides-eqb}
 
-pub returns-then-in-use : goal.returns-then-in-use
-returns-then-in-use c =
+pub returns-then-in_use : goal.returns-then-in_use
+returns-then-in_use c =
     let long : length c.args.name.now.bytes ≡ 32 = search rules in
-    named c.args.slot.now c.args.name.now.bytes c.eq.result long (sym c.if-in-use.ensures) (slice_eq-Decides Decides-eqb _ _ _ c.eq.ensures)
+    named c.args.slot.now c.args.name.now.bytes c.eq.result long (sym c.if-in_use.ensures) (slice_eq-Decides Decides-eqb _ _ _ c.eq.ensures)

@@ -14,22 +14,23 @@ write-self-requires c =
     let s = c.args.self.now in
     let m = s.room.memory.now in
     record {
-      room = omega (arith, (known m).room, sector-count m, c.sectors-for-cost.ensures, s.filled, s.vacant);
+      room = omega (arith, (known m).room, sector-count m, c.sectors_for-cost.ensures, s.filled, s.vacant);
       short = c.requires.short;
     }
 
-pub invariant-of-self : goal.invariant-of-self
-invariant-of-self c =
+pub invariant_of-self : goal.invariant_of-self
+invariant_of-self c =
     let s = c.args.self.now in
     let m = s.room.memory.now in
     let n = c.write-self.new.self.memory.now in
     let name = c.args.name.now.bytes in
     let block = c.args.block.now in
     let w = c.write-self.ensures in
-    let is = added_read m n s.used s.free c.sectors-for-cost.result name block s.filled s.vacant c.sectors-for-cost.ensures c.if-cost-self.false w.size w.name-size c.requires.short c.requires.absent w.after in (
-      omega (arith, used_written m n name block is, s.filled, w.end),
-      (omega (arith, ap free_read is, s.vacant, c.sectors-for-cost.ensures), tt),
-    )
+    let is = added_read m n s.used s.free c.sectors_for-cost.result name block s.filled s.vacant c.sectors_for-cost.ensures c.if-cost-self.false w.size w.name_size c.requires.short c.requires.absent w.after in
+    record {
+      filled = omega (arith, used_written m n name block is, s.filled, w.end);
+      vacant = omega (arith, ap free_read is, s.vacant, c.sectors_for-cost.ensures);
+    }
 
 pub returns : goal.returns
 returns c =
@@ -39,8 +40,8 @@ returns c =
     let name = c.args.name.now.bytes in
     let block = c.args.block.now in
     let w = c.write-self.ensures in
-    let is = added_read m n s.used s.free c.sectors-for-cost.result name block s.filled s.vacant c.sectors-for-cost.ensures c.if-cost-self.false w.size w.name-size c.requires.short c.requires.absent w.after in
-    let room : sector_cost (length block) ≤ free_in m = omega (arith, c.if-cost-self.false, c.sectors-for-cost.ensures, s.vacant) in
+    let is = added_read m n s.used s.free c.sectors_for-cost.result name block s.filled s.vacant c.sectors_for-cost.ensures c.if-cost-self.false w.size w.name_size c.requires.short c.requires.absent w.after in
+    let room : sector_cost (length block) ≤ free_in m = omega (arith, c.if-cost-self.false, c.sectors_for-cost.ensures, s.vacant) in
     let o = outcome_added (pack_meaning m) name block c.requires.short c.requires.absent room in
     record {
       answer = sym (ap answer_of o);

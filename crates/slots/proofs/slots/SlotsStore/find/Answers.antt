@@ -14,7 +14,7 @@ returns c =
     record {
       answer = sym f.answers;
       buffer =
-          ap (λ front. front ++ drop (length block - 0) out) c.copy-from-slice.ensures.after
+          ap (λ front. front ++ drop (length block - 0) out) c.copy_from_slice.ensures.after
           ∙ ap (λ n. block ++ drop n out) (sub-zero (length block))
           ∙ sym f.leaves;
       bound = (c.in-Some.ensures.bound, room);
