@@ -1,6 +1,6 @@
 -- The order of keys.
 --
---   before         which of two byte strings comes first
+--   before        which of two byte strings comes first
 --   StrictTotal   the laws of a strict order in which any two strings have their places
 --
 -- A byte string is a list of numbers. Assumes nothing.

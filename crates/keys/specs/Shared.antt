@@ -1,6 +1,6 @@
 -- What two byte strings have in common at the front.
 --
---   shared           how many bytes of the front are the same
+--   shared          how many bytes of the front are the same
 --   LongestShared   a common front of that length, and none longer
 --
 -- Assumes nothing.

@@ -2,7 +2,7 @@
 --
 --   KeySized      a length that a key may have
 --   RecordSized   a length that a record may have
---   Joins          the front of a string and a tail make a key
+--   Joins         the front of a string and a tail make a key
 --
 -- Assumes nothing.
 use Rattle.std.specs.Prelude.{ℕ, ◌+◌, ◌≤◌, List, length}

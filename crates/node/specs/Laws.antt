@@ -1,8 +1,8 @@
 -- What the encoding of nodes promises.
 --
---   Encodes      s is the encoding of a well-formed node
---   Encodings    the laws of encoding and decoding
---   Fits         every node fits a block
+--   Encodes     s is the encoding of a well-formed node
+--   Encodings   the laws of encoding and decoding
+--   Fits        every node fits a block
 --   OfBytes     a node made of bytes has an encoding made of bytes
 --
 -- Assumes nothing.

@@ -1,8 +1,8 @@
 -- An entry as it stands in a block.
 --
---   lent           the digest that a lent link has, if it is one
---   NoLinkOrNull, NoEntry    none stands at a place
---   ReadsEntry    the parts of an entry stand at a place
+--   lent                    the digest that a lent link has, if it is one
+--   NoLinkOrNull, NoEntry   none stands at a place
+--   ReadsEntry              the parts of an entry stand at a place
 --
 -- c is the code byte of the digest kind. Assumes nothing.
 use Rattle.std.specs.Prelude.{◌≡◌, ℕ, ◌+◌, ◌<◌, List, length, Some, None, Option}

@@ -5,8 +5,8 @@
 --   Sized        an item of a size that a node has
 --   value_of     what the code's items mean
 --   Lends        what an item lends is that part of the block
---   ReadsItem   an item stands at a place, and what it lends is that part of the block
---   NoItem      none does
+--   ReadsItem    an item stands at a place, and what it lends is that part of the block
+--   NoItem       none does
 --
 -- c is the code byte of the digest kind. Assumes nothing.
 use Rattle.std.specs.Prelude.{◌≡◌, ℕ, ◌+◌, ◌-◌, ◌<◌, ◌≤◌, List, [], ◌∷◌, ◌++◌, length}

@@ -1,8 +1,8 @@
 -- What a reader of a node means.
 --
---   start_of  the cursor before the first entry
---   Reads     the reader is that of a block, and the block is the encoding of a node
---   OfNode   the same, of a reader in hand
+--   start_of   the cursor before the first entry
+--   Reads      the reader is that of a block, and the block is the encoding of a node
+--   OfNode     the same, of a reader in hand
 --
 -- Assumes nothing.
 use Rattle.std.specs.Prelude.{◌≡◌, ℕ, List, None}

@@ -1,13 +1,13 @@
 -- The bytes of one sector.
 --
---   two_bytes, four_bytes   a number in so many bytes, high byte first
---   zeros                   so many bytes of 00
---   weighed                 the sum of the bytes, each times its weight; weights rise by one
---   body                    bytes 0 to 507 of a part: kind, part number, count, name, payload, and zeros to the end
---   sector                  the whole sector of a part: its body, and the sum of (offset + 1) × byte over it
---   unused_sector           a sector that is not used
---   more_follows, last      the kinds of a part
---   name_of, count_of, payload_of    what stands in a sector where a part has its name, its count and its payload
+--   two_bytes, four_bytes           a number in so many bytes, high byte first
+--   zeros                           so many bytes of 00
+--   weighed                         the sum of the bytes, each times its weight; weights rise by one
+--   body                            bytes 0 to 507 of a part: kind, part number, count, name, payload, and zeros to the end
+--   sector                          the whole sector of a part: its body, and the sum of (offset + 1) × byte over it
+--   unused_sector                   a sector that is not used
+--   more_follows, last              the kinds of a part
+--   name_of, count_of, payload_of   what stands in a sector where a part has its name, its count and its payload
 --
 -- A sector is a list of 512 numbers. Assumes nothing.
 use Rattle.std.specs.Prelude.{ℕ, ◌+◌, ◌-◌, ◌*◌, ◌/◌, ◌%◌, List, [], ◌∷◌, ◌++◌, length, take, drop, replicate, slice_index}

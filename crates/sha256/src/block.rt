@@ -69,8 +69,8 @@ fn schedule(block: &[u8; 64]) -> [u32; 64]
 
 // Word `t` of the schedule, from those before it.
 fn next_word(words: &[u32; 64], t: usize) -> u32
-    requires le_t { 16 ≤ t }
-    requires t_bound { t < 64 }
+    requires past_block { 16 ≤ t }
+    requires in_schedule { t < 64 }
     ensures { result ≡ next_word words.now t }
 {
     small_sigma1(words[t - 2])

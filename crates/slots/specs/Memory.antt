@@ -1,7 +1,7 @@
 -- What memory means that is cut into slots.
 --
 --   slots_in         the slots of memory: one for each whole slot size
---   left-over        what is left behind the last whole slot
+--   left_over        what is left behind the last whole slot
 --   holds            whether a slot is used under a name
 --   held_in          the block under a name
 --   unused           how many slots are unused

@@ -1,17 +1,17 @@
 -- What is proved of trees.
 --
---   Parted            what holds of each element of the gaps, and of each item
+--   Parted           what holds of each element of the gaps, and of each item
 --   NodeLaw          a node holds the keys of its layer, and the gaps between hold the others
 --   SplitJoin        how the nodes of two parts of a map and that of the whole come from each other
 --   PathLaw          a path follows links, and says of its key what the map does
---   Rebuilds          what was rebuilt, with what was there before, is the tree of the changed map
+--   Rebuilds         what was rebuilt, with what was there before, is the tree of the changed map
 --   InsertLaw        an insert, by its path
 --   DeleteLaw        a delete, by its path
---   Collision         two different blocks with one digest
+--   Collision        two different blocks with one digest
 --   EqualRoots       equal roots: equal maps, or a collision between their blocks
---   Kept              a map that is not crowded
+--   Kept             a map that is not crowded
 --   BlockLaw         the nodes of such a map are well formed, and its blocks fit a store
---   EqualKeptRoots  of such maps: a collision between byte strings
+--   EqualKeptRoots   of such maps: a collision between byte strings
 --
 -- Assumes nothing.
 use Rattle.std.specs.Prelude.{◌≡◌, ℕ, suc, ◌<◌, ◌≤◌, false, ◌≢◌, ◌⊎◌, List, [], ◌++◌, map, length}

@@ -2,14 +2,14 @@
 --
 --   IsKey       a byte string that a key may be
 --   IsRecord    a byte string that a record may be
---   Item         a key and its record
---   Map          a list of items
+--   Item        a key and its record
+--   Map         a list of items
 --   BeforeAll   a key comes before every key of a map
---   Rising       each key comes before every later one
+--   Rising      each key comes before every later one
 --   IsMap       a rising list of keys with records
---   insert       the map with the record of a key set
---   delete       the map without a key
---   lookup       the record of a key
+--   insert      the map with the record of a key set
+--   delete      the map without a key
+--   lookup      the record of a key
 --
 -- Assumes nothing.
 use Rattle.std.specs.Prelude.{◌≡◌, ℕ, true, cond, List, [], ◌∷◌, length, Some, None, Option}

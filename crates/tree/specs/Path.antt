@@ -9,7 +9,7 @@
 --   path_says          what a path says of its key
 --   Sides              the nodes of one layer on the left and on the right of a key
 --   sides              those nodes, layer by layer
---   ForkedPath        the path to the node that has a key, and below it the nodes on its sides
+--   ForkedPath         the path to the node that has a key, and below it the nodes on its sides
 --   forked_path        that below a layer
 --   forked_from_root   all of it
 --

@@ -1,8 +1,8 @@
 -- Worked examples of nodes and their bytes.
 --
---   empty_bytes     the node of the empty map
---   lesson          with Fold: key 61 with record 62, alone in its node
---   lesson_bytes    its 61 bytes
+--   empty_bytes    the node of the empty map
+--   lesson         with Fold: key 61 with record 62, alone in its node
+--   lesson_bytes   its 61 bytes
 --   WorkedNodes    what the definitions say of them, and of the keys rm/12 and rm/3 in one node
 --
 -- Assumes nothing.

@@ -1,15 +1,15 @@
 -- Worked examples of trees, with Fold.
 --
---   item                     a key with a record
---   lesson_map               key 61 with record 62
---   lesson_root              its root
---   lowest, middle, upper    the nodes of the map with keys 05 and 61, as rows
---   keys_from                keys of one byte, one after the other
---   high_key                 key 6D, 31 zeros, C4
---   between                  that key between as many keys below it as above
---   insert_all               items inserted one by one, the last first
---   parting_key              key 6D, 31 zeros, 98
---   one_key, over_key        a node with one key, and one above it with none, as rows
+--   item                    a key with a record
+--   lesson_map              key 61 with record 62
+--   lesson_root             its root
+--   lowest, middle, upper   the nodes of the map with keys 05 and 61, as rows
+--   keys_from               keys of one byte, one after the other
+--   high_key                key 6D, 31 zeros, C4
+--   between                 that key between as many keys below it as above
+--   insert_all              items inserted one by one, the last first
+--   parting_key             key 6D, 31 zeros, 98
+--   one_key, over_key       a node with one key, and one above it with none, as rows
 --   WorkedTrees             what the definitions say of them
 --
 -- Assumes nothing.
