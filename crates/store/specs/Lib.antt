@@ -4,3 +4,4 @@ pub mod Calls
 pub mod Drafts
 pub mod Copies
 pub mod Runs
+pub mod Admission

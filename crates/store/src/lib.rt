@@ -10,6 +10,8 @@
 //   BLOCK_LIMIT  the most bytes that a block has
 #![tactic(auto)]
 
+mod admission;
+mod block;
 mod compared;
 mod copy;
 mod draft;
@@ -18,10 +20,12 @@ mod fault;
 mod spent;
 mod store;
 
+pub use admission::admit;
+pub use block::{BLOCK_LIMIT, Block};
 pub use compared::Compared;
 pub use copy::copy_block;
 pub use draft::Draft;
 pub use each::{Answers, call_each};
 pub use fault::Fault;
 pub use spent::spent_since;
-pub use store::{BLOCK_LIMIT, Store};
+pub use store::Store;

@@ -8,9 +8,6 @@ use crate::compared::Compared;
 use crate::fault::Fault;
 use digest::Digest;
 
-// The most bytes that a block has.
-pub const BLOCK_LIMIT: usize = 10752;
-
 pub trait Store {
     // What the store means: the block under each name, the free units, and what a block of each length costs.
     ghost meaning: { Self → Meaning };
