@@ -1,5 +1,5 @@
 // What comes of a block that is put, before its cost is looked at.
-ghost use Rattle.store.specs.Admission.{Admits};
+ghost use Rattle.store.specs.Blocks.{Admits};
 
 use crate::block::Block;
 use crate::compared::Compared;

@@ -1,5 +1,5 @@
-// A block that is known to keep the limit.
-ghost use Rattle.std.specs.Prelude.{◌≡◌, ◌<◌, ◌≤◌, length, MatchResult};
+// A block, which keeps the limit.
+ghost use Rattle.std.specs.Prelude.{◌≤◌, length};
 ghost use Rattle.store.specs.Meaning.{block_limit};
 
 use crate::fault::Fault;
@@ -8,7 +8,7 @@ use crate::fault::Fault;
 pub const BLOCK_LIMIT: usize = 10752;
 
 // The bytes of a block.
-#[derive(Clone, Copy)]
+#[derive(Clone, Copy, Debug, PartialEq, Eq, Hash)]
 pub struct Block<'a> {
     pub bytes: &'a [u8],
     pub ghost short: { length bytes.now ≤ block_limit },
@@ -17,9 +17,9 @@ pub struct Block<'a> {
 impl<'a> TryFrom<&'a [u8]> for Block<'a> {
     type Error = Fault;
 
-    ghost use Rattle.store.specs.declared.fault.Fault.TheVariants.{BlockTooLong};
+    ghost use Rattle.store.specs.Blocks.{Keeps};
 
-    ghost try_from_gives = { λ bytes r. MatchResult r (λ block. block.bytes ≡ bytes) (λ fault. (block_limit < length bytes.now) × (fault ≡ BlockTooLong)) };
+    ghost try_from_gives = { Keeps };
 
     fn try_from(bytes: &'a [u8]) -> Result<Block<'a>, Fault> {
         if bytes.len() > BLOCK_LIMIT {

@@ -22,9 +22,9 @@ impl<F: Store, B: Store> Store for Draft<F, B> {
     ghost lawful = { λ d. draft_lawful (F.Store.meaning d.front) (B.Store.meaning d.back) (F.Store.lawful d.front) (B.Store.lawful d.back) };
 
     fn find(&self, name: &Digest, out: &mut [u8]) -> Result<Option<usize>, Fault> {
-        match self.front.find(name, out) {
-            Ok(None) => self.back.find(name, out),
-            other => other,
+        match self.front.find(name, out)? {
+            None => self.back.find(name, out),
+            found => Ok(found),
         }
     }
 

@@ -12,10 +12,6 @@ pub trait Store {
     // What the store means: the block under each name, the free units, and what a block of each length costs.
     ghost meaning: { Self → Meaning };
 
-    // Names are 32 bytes, blocks keep the limit, and nothing is free of cost. Each impl gives the proof: a `law` would say the same, and has
-    // no generated proof where an impl has a lifetime parameter.
-    ghost lawful: { (s : Self) → Lawful (meaning s) };
-
     // Copies the block of this name to the start of `out`, and answers its length; none where the name is absent. Past the block, and
     // where none is copied, `out` stays as it is.
     fn find(&self, name: &Digest, out: &mut [u8]) -> Result<Option<usize>, Fault>
@@ -39,4 +35,7 @@ pub trait Store {
     // The units that a block of `len` bytes costs.
     fn cost(&self, len: usize) -> usize
         ensures { result ≡ (meaning self.now).cost len };
+
+    // Names are 32 bytes, blocks keep the limit, and nothing is free of cost.
+    ghost lawful: { (s : Self) → Lawful (meaning s) };
 }
