@@ -3,6 +3,8 @@
 //   Store        what every store answers: find, compare, put, free, cost
 //   Compared     whether a name is held, and whether for the block in hand
 //   Fault        why a call is refused
+//   Block        bytes that keep the limit of blocks
+//   admit        what comes of a block that is put, before its cost is looked at
 //   Draft        a store in front of another, which it leaves as it is
 //   copy_block   a block from one store to another
 //   call_each    each call once
