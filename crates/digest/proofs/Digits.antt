@@ -1,29 +1,35 @@
--- Writing two digits a byte: the digits written and those of the bytes left are the whole text at every step. Assumes nothing.
-use Rattle.std.proofs.Common.{◌≡◌, ℕ, ◌+◌, ◌*◌, ◌/◌, ◌%◌, ◌<◌, ◌≤◌, List, [], ◌∷◌, ◌++◌, length, get_or, take, drop, set, sym, ap, ◌∙◌, arith}
-use Rattle.std.proofs.lemmas.List.{append_assoc, append-nil, at_drop_more, at_drop_all, length-set, take_all, take_more_set}
+-- The digits of bytes, as the library writes them. Assumes nothing.
+use Rattle.std.proofs.Common.{◌≡◌, ℕ, ◌+◌, ◌-◌, ◌/◌, ◌%◌, ◌^◌, ◌<◌, false, List, [], ◌∷◌, ◌++◌, length, get_or, take, map, codes, sym, refl, ap, ◌∙◌, arith}
+use Rattle.std.specs.List.{range_with_len}
+use Rattle.std.specs.Fmt.{digits, digit_glyph, format_spec, padded_integral}
+use Rattle.std.proofs.lemmas.Fmt.{hex_byte}
+use Rattle.std.proofs.lemmas.List.{take_more}
+use Rattle.std.proofs.lemmas.List.FromFn.{get_or-map-range_with_len}
+use Rattle.hex.specs.Hex.{encode_with, encode_lower}
 use Rattle.digest.specs.Hex.{hex_digit, hex}
 
--- the digits of the first i bytes stand in text
-abbrev pub Written : List ℕ → ℕ → List ℕ → Type 0
-Written bytes i text = take (2 * i) text ++ hex (drop i bytes) ≡ hex bytes
+-- what the library's encoder writes
+pub encode_lower-hex : (bytes : List ℕ) → encode_lower bytes ≡ hex bytes
+unfolding encode_with
+encode_lower-hex [] = refl
+encode_lower-hex (b ∷ bytes) = ap (λ rest. hex_digit (b / 16) ∷ (hex_digit (b % 16) ∷ rest)) (encode_lower-hex bytes)
 
--- two places set, one after the other
-take_two : (text : List ℕ) (i x y : ℕ) → 2 * i + 1 < length text
-    → take (2 * (i + 1)) (set (set text (2 * i) x) (2 * i + 1) y) ≡ take (2 * i) text ++ (x ∷ (y ∷ []))
-take_two text i x y within =
-    let two : 2 * (i + 1) ≡ 2 * i + 1 + 1 = omega arith in
-    let inside : 2 * i + 1 < length (set text (2 * i) x) = rw length-set within in
-    let before : 2 * i < length text = omega arith in
-    rw (two, take_more_set, take_more_set) (append_assoc (take (2 * i) text) (x ∷ []) (y ∷ []))
+hex-append : (a b : List ℕ) → hex (a ++ b) ≡ hex a ++ hex b
+hex-append [] b = refl
+hex-append (x ∷ a) b = ap (λ rest. hex_digit (x / 16) ∷ (hex_digit (x % 16) ∷ rest)) (hex-append a b)
 
-pub written_more : (bytes text : List ℕ) (i : ℕ) → i < length bytes → 2 * i + 1 < length text → Written bytes i text
-    → Written bytes (i + 1) (set (set text (2 * i) (hex_digit (get_or bytes i 0 / 16))) (2 * i + 1) (hex_digit (get_or bytes i 0 % 16)))
-written_more bytes text i within room so_far =
-    let high = hex_digit (get_or bytes i 0 / 16) in
-    let low = hex_digit (get_or bytes i 0 % 16) in
-    let step : hex (drop i bytes) ≡ high ∷ (low ∷ hex (drop (i + 1) bytes)) = at_drop_more hex bytes i 0 within in
-    rw take_two (append_assoc (take (2 * i) text) (high ∷ (low ∷ [])) (hex (drop (i + 1) bytes)) ∙ ap (λ rest. take (2 * i) text ++ rest) (sym step) ∙ so_far)
+-- the library's digit of a half byte
+glyphs : map (digit_glyph false) (range_with_len 0 16) ≡ codes "0123456789abcdef"
+glyphs = refl
 
-pub written_all : (bytes text : List ℕ) (i : ℕ) → length bytes ≤ i → length text ≤ 2 * i → Written bytes i text → text ≡ hex bytes
-written_all bytes text i past full all =
-    rw (at_drop_all hex bytes i past, take_all (2 * i) text full, append-nil) at all
+digit_glyph-half : (n : ℕ) → n < 16 → digit_glyph false n ≡ hex_digit n
+digit_glyph-half n half = sym (get_or-map-range_with_len (digit_glyph false) 0 16 n n 0 half (omega arith)) ∙ ap (λ all. get_or all n 0) glyphs
+
+-- the digits of one byte more, as `{:02x}` writes them
+pub hex-take_more : (bytes : List ℕ) (i : ℕ) → i < length bytes → get_or bytes i 0 < 256
+    → hex (take i bytes) ++ padded_integral (format_spec 32 0 4 2 (2 ^ 64 - 1)) false [] (digits 16 false (get_or bytes i 0)) ≡ hex (take (i + 1) bytes)
+hex-take_more bytes i within small =
+    let b = get_or bytes i 0 in
+    let high : digit_glyph false (b / 16) ≡ hex_digit (b / 16) = digit_glyph-half (b / 16) (omega arith) in
+    let low : digit_glyph false (b % 16) ≡ hex_digit (b % 16) = digit_glyph-half (b % 16) (omega arith) in
+    rw (hex_byte false b small, high, low, take_more bytes i 0 within, hex-append) refl

@@ -1,4 +1,5 @@
 // Fold, the digest kind for tests: each byte of the digest sums every 32nd byte of the message.
+ghost use Rattle.std.specs.Prelude.{refl};
 ghost use Rattle.digest.specs.Fold.{fold};
 
 use crate::digest::Digest;
@@ -9,11 +10,9 @@ pub struct Fold;
 impl DigestKind for Fold {
     ghost kind = { fold };
 
-    const CODE: u8 = 0x00;
+    ghost CODE = { 0x00 };
 
-    fn code_byte() -> u8 {
-        Self::CODE
-    }
+    const CODE: u8 = 0x00;
 
     fn digest(message: &[u8]) -> Digest {
         let mut sums = [0u8; 32];
@@ -23,4 +22,6 @@ impl DigestKind for Fold {
         }
         Digest { bytes: sums }
     }
+
+    ghost coded = { refl };
 }

@@ -1,5 +1,5 @@
 // What every digest kind answers. Code above this crate is written against this trait alone.
-ghost use Rattle.std.specs.Prelude.{◌≡◌};
+ghost use Rattle.std.specs.Prelude.{◌≡◌, ℕ};
 ghost use Rattle.digest.specs.Kind.{Kind};
 ghost use Rattle.digest.specs.Layer.{layer};
 
@@ -10,15 +10,16 @@ pub trait DigestKind {
     ghost kind: { Kind };
 
     // The code byte that names the kind in links.
-    const CODE: u8;
+    ghost CODE: { ℕ };
 
-    // The code byte again, tied to the meaning: generic code knows nothing of the value of `CODE`.
-    fn code_byte() -> u8
-        ensures { result ≡ kind.code };
+    const CODE: u8;
 
     // The digest of a message of any length.
     fn digest(message: &[u8]) -> Digest
         ensures { result.bytes ≡ kind.hash message.now };
+
+    // The constant is the code that the kind means.
+    ghost coded: { CODE ≡ kind.code };
 }
 
 // The layer of a key in the tree: that of its digest.

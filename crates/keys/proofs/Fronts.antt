@@ -1,22 +1,15 @@
 -- What two byte strings share at the front. Assumes nothing.
-use Rattle.std.proofs.Common.{◌≡◌, ℕ, zero, suc, ◌+◌, ◌-◌, ◌<◌, ◌≤◌, List, [], ◌∷◌, ◌++◌, length, get_or, take, drop, sym, refl, ◌∙◌, arith}
-use Rattle.std.proofs.lemmas.List.{get_or-append_right, length-append, length-take-le, take_all, take-append-drop}
+use Rattle.std.proofs.Common.{◌≡◌, ℕ, zero, suc, ◌+◌, ◌-◌, ◌<◌, ◌≤◌, Bool, nat_eq, List, [], ◌∷◌, ◌++◌, length, get_or, take, drop, refl, ◌∙◌, arith}
+use Rattle.std.proofs.lemmas.List.{get_or-append_right, length-append, length-take-le, take-append-drop}
+use Rattle.std.proofs.lemmas.List.Folds.{length-prefix_len}
 use Rattle.std.proofs.lemmas.Bool.{ne_eqb}
 use Rattle.std.proofs.lemmas.Bool.Decides.{nat_tests}
+use Rattle.std.specs.List.{zip, prefix_len}
 use Rattle.keys.specs.Shared.{shared, LongestShared}
-
-pub shared_none : (a : List ℕ) → shared a [] ≡ 0
-shared_none [] = refl
-shared_none (x ∷ a) = refl
 
 pub shared_self : (a : List ℕ) → shared a a ≡ length a
 shared_self [] = refl
 shared_self (x ∷ a) = let rest = shared_self a in grind (arith, nat_tests)
-
-pub shared_comm : (a b : List ℕ) → shared a b ≡ shared b a
-shared_comm [] b = sym (shared_none b)
-shared_comm (x ∷ a) [] = refl
-shared_comm (x ∷ a) (y ∷ b) = let rest = shared_comm a b in grind (arith, nat_tests)
 
 pub shared_left : (a b : List ℕ) → shared a b ≤ length a
 shared_left [] b = omega arith
@@ -42,14 +35,22 @@ shared_longest (x ∷ a) (y ∷ b) (suc m) l r same =
     let rest = shared_longest a b m (omega arith) (omega arith) in
     grind (arith, nat_tests)
 
+-- two strings side by side, byte by byte
+abbrev pub same_bytes : ℕ × ℕ → Bool
+same_bytes p = nat_eq p.0 p.1
+
+-- the pairs up to the first of two different bytes are as many as are shared
+prefix_len-zip : (a b : List ℕ) → prefix_len same_bytes (zip a b) ≡ shared a b
+prefix_len-zip [] b = refl
+prefix_len-zip (x ∷ a) [] = refl
+prefix_len-zip (x ∷ a) (y ∷ b) = let rest = prefix_len-zip a b in grind (arith, nat_tests)
+
+pub length-zip_front : (a b : List ℕ) → length (take (prefix_len same_bytes (zip a b)) (zip a b)) ≡ shared a b
+length-zip_front a b = length-prefix_len same_bytes (zip a b) ∙ prefix_len-zip a b
+
 pub longest_shared : (a b : List ℕ) (n : ℕ) → n ≡ shared a b → LongestShared a b n
 longest_shared a b n is =
     rw is record { left = shared_left a b; right = shared_right a b; same = shared_same a b; longest = shared_longest a b }
-
--- two strings of which no byte is left are one
-pub shared_all : (a b : List ℕ) → length a ≤ shared a b → length b ≤ shared a b → a ≡ b
-shared_all a b l r =
-    sym (take_all (shared a b) a l) ∙ shared_same a b ∙ take_all (shared a b) b r
 
 -- the second string, from the first and the bytes past what is shared
 pub shared_rebuilds : (a b : List ℕ) → take (shared a b) a ++ drop (shared a b) b ≡ b

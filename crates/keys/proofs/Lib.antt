@@ -1,4 +1,3 @@
-pub mod Walks
 pub mod Fronts
 pub mod Orders
 pub mod Keys

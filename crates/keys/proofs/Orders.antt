@@ -1,10 +1,9 @@
--- Byte strings in order: the laws of a strict order, and what two strings share does not matter. Assumes nothing.
-use Rattle.std.proofs.Common.{◌≡◌, ℕ, ◌<◌, ◌≤◌, true, false, ◌⊎◌, List, [], ◌∷◌, ◌++◌, length, get_or, Ordering, Less, Equal, Greater, refl, arith}
-use Rattle.std.specs.Ordering.{MatchOrdering}
+-- Byte strings in order: the laws of a strict order, and the library's order of lists is this one. Assumes nothing.
+use Rattle.std.proofs.Common.{◌≡◌, ℕ, true, false, List, [], ◌∷◌, ◌++◌, Ordering, refl, arith}
+use Rattle.std.specs.Ordering.{MatchOrdering, nat_cmp}
+use Rattle.std.specs.Cmp.Lexicographic.{slice_cmp}
 use Rattle.std.proofs.lemmas.Bool.Decides.{nat_tests}
 use Rattle.keys.specs.Order.{before, StrictTotal}
-use Rattle.keys.specs.Shared.{shared}
-use Rattle.keys.proofs.Fronts.{shared_all, shared_apart, shared_comm, shared_left, shared_right}
 
 pub before_self : (a : List ℕ) → before a a ≡ false
 before_self [] = refl
@@ -39,31 +38,12 @@ pub before_common : (p a b : List ℕ) → before (p ++ a) (p ++ b) ≡ before a
 before_common [] a b = refl
 before_common (x ∷ p) a b = let rest = before_common p a b in grind (arith, nat_tests)
 
--- where both go on past what they share, the next bytes decide
-pub before_byte : (a b : List ℕ) → shared a b < length a → shared a b < length b → get_or a (shared a b) 0 < get_or b (shared a b) 0 → before a b ≡ true
-before_byte [] b l r less = absurd (omega arith)
-before_byte (x ∷ a) [] l r less = absurd (omega arith)
-before_byte (x ∷ a) (y ∷ b) l r less = let rest = before_byte a b in grind (arith, nat_tests)
+-- the library's order of lists of numbers ranks two strings
+ranked_slices : (a b : List ℕ) → MatchOrdering (slice_cmp nat_cmp a b) (before a b ≡ true) (a ≡ b) (before b a ≡ true)
+ranked_slices [] [] = refl
+ranked_slices [] (y ∷ b) = refl
+ranked_slices (x ∷ a) [] = refl
+ranked_slices (x ∷ a) (y ∷ b) = let rest = ranked_slices a b in grind (arith, nat_tests)
 
--- where one ends there, it comes first
-pub before_longer : (a b : List ℕ) → length a ≤ shared a b → length a < length b → before a b ≡ true
-before_longer [] [] all less = absurd (omega arith)
-before_longer [] (y ∷ b) all less = refl
-before_longer (x ∷ a) [] all less = absurd (omega arith)
-before_longer (x ∷ a) (y ∷ b) all less = let rest = before_longer a b in grind (arith, nat_tests)
-
--- an answer that ranks the next bytes ranks the strings
-pub ranked_byte : (a b : List ℕ) (n : ℕ) (o : Ordering) → n ≡ shared a b → n < length a → n < length b
-    → MatchOrdering o (get_or a n 0 < get_or b n 0) (get_or a n 0 ≡ get_or b n 0) (get_or b n 0 < get_or a n 0)
-    → MatchOrdering o (before a b ≡ true) (a ≡ b) (before b a ≡ true)
-ranked_byte a b n Less is l r next = let lemma = before_byte a b in grind arith
-ranked_byte a b n Equal is l r next = let lemma = shared_apart a b in grind arith
-ranked_byte a b n Greater is l r next = let lemma = before_byte b a in let swap = shared_comm a b in grind arith
-
--- and where a string ends there, so does one that ranks the lengths
-pub ranked_length : (a b : List ℕ) (n : ℕ) (o : Ordering) → n ≡ shared a b → (length a ≤ n) ⊎ (length b ≤ n)
-    → MatchOrdering o (length a < length b) (length a ≡ length b) (length b < length a)
-    → MatchOrdering o (before a b ≡ true) (a ≡ b) (before b a ≡ true)
-ranked_length a b n Less is end lengths = let lemma = before_longer a b in let left = shared_left a b in let right = shared_right a b in grind arith
-ranked_length a b n Equal is end lengths = let lemma = shared_all a b in grind arith
-ranked_length a b n Greater is end lengths = let lemma = before_longer b a in let swap = shared_comm a b in let left = shared_left a b in let right = shared_right a b in grind arith
+pub ranked_from_slice_cmp : (a b : List ℕ) (o : Ordering) → o ≡ slice_cmp nat_cmp a b → MatchOrdering o (before a b ≡ true) (a ≡ b) (before b a ≡ true)
+ranked_from_slice_cmp a b o is = rw is (ranked_slices a b)

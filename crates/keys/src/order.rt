@@ -3,7 +3,6 @@ ghost use Rattle.std.specs.Prelude.{◌≡◌, true};
 ghost use Rattle.std.specs.Ordering.{MatchOrdering};
 ghost use Rattle.keys.specs.Order.{before, StrictTotal};
 
-use crate::prefix::shared_len;
 use std::cmp::Ordering;
 
 // Which of two byte strings comes first. Bytes are compared one by one; a string that begins another comes first.
@@ -11,10 +10,5 @@ pub fn compare(a: &[u8], b: &[u8]) -> Ordering
     ensures value { MatchOrdering result (before a.now b.now ≡ true) (a.now ≡ b.now) (before b.now a.now ≡ true) }
     ensures strict { StrictTotal before }
 {
-    let n = shared_len(a, b);
-    if n < a.len() && n < b.len() {
-        a[n].cmp(&b[n])
-    } else {
-        a.len().cmp(&b.len())
-    }
+    a.cmp(b)
 }

@@ -7,9 +7,5 @@ pub fn shared_len(a: &[u8], b: &[u8]) -> usize
     ensures value { result ≡ shared a.now b.now }
     ensures longest { LongestShared a.now b.now result }
 {
-    let mut n = 0;
-    while n < a.len() && n < b.len() && a[n] == b[n] {
-        n += 1;
-    }
-    n
+    a.iter().zip(b).take_while(|(x, y)| x == y).count()
 }

@@ -1,3 +1,4 @@
+pub mod Major
 pub mod Format
 pub mod WellFormed
 pub mod Decode

@@ -1,6 +1,7 @@
 // The bytes of nodes: definitions and their laws.
 //
 //   Entry         an entry of a node by value
+//   MajorType     the kinds of CBOR items in a node
 //   block_limit   the most bytes of a block
 #![tactic(auto)]
 
@@ -8,14 +9,16 @@ ghost use Rattle.std.specs.Prelude.{◌≡◌, ℕ};
 ghost use Rattle.node.specs.Laws.{Encodings, Fits, OfBytes};
 
 mod entry;
+mod major;
 
 pub use entry::Entry;
+pub use major::MajorType;
 
 // The most keys of a node.
 pub const KEY_LIMIT: usize = 64;
 
 // The most bytes of a block.
-pub const BLOCK_LIMIT: usize = 10_752;
+pub const BLOCK_LIMIT: usize = digest::BLOCK_LIMIT;
 
 // The most bytes of a block. Every node fits, and a node and its bytes determine each other.
 pub fn block_limit() -> usize

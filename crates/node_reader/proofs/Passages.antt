@@ -1,5 +1,5 @@
 -- Entry after entry, from the first to the end of the node. Assumes nothing.
-use Rattle.std.proofs.Common.{◌≡◌, ℕ, ◌<◌, ◌≤◌, List, [], ◌∷◌, ◌++◌, length, drop, None, Option, sym, refl, ap, ◌∙◌, subst, ap₂, append_assoc, append-nil, arith}
+use Rattle.std.proofs.Common.{◌≡◌, ℕ, ◌+◌, ◌<◌, ◌≤◌, List, [], ◌∷◌, ◌++◌, length, drop, Some, None, Option, sym, refl, ap, ◌∙◌, subst, ap₂, append_assoc, append-nil, arith}
 use Rattle.std.proofs.lemmas.List.{drop_all, length-drop, nil_from_length}
 use Rattle.node.specs.Format as format
 use Rattle.node.specs.Format.{Node, closing, encode, entries, head, link_or_null}
@@ -9,8 +9,11 @@ use Rattle.node.specs.WellFormed.{Link}
 use Rattle.node.specs.declared.entry.Entry.{Entry}
 use Rattle.node.proofs.Prefixes.{head_one}
 use Rattle.node_reader.specs.Entries.{NoLinkOrNull, ReadsLinkOrNull}
-use Rattle.node_reader.specs.Nodes.{Closes, Ends, Finishes, Opens, Passes, Rest, Steps, with_entry, with_entries}
+use Rattle.node_reader.specs.Nodes.{Closes, Ends, Finishes, Passes, Rest, Steps, with_entry, with_entries}
+use Rattle.node_reader.specs.Reader.{Left, Takes}
 use Rattle.node_reader.specs.Stands.{Absent, Stands}
+use Rattle.node_reader.specs.declared.entries.Entries.{Entries}
+use Rattle.node_reader.specs.declared.input.Input.{Input}
 use Rattle.node_reader.specs.declared.cursor.Cursor.{Cursor}
 use Rattle.node_reader.proofs.Parts.{joins, past_bytes, past_link}
 
@@ -65,6 +68,31 @@ passes_all c s start cursor passes none = record { passed = passes.passed; down 
         let m : Node = record { first = first; entries = [] } in
         let whole : with_entries passes.passed m ≡ record { first = first; entries = passes.passed } = λ i. record { first = first; entries = append-nil passes.passed i } in
         subst (Rest c s start) whole (passes.up m (record { count = omega arith; each = tt; first = formed; is = is }))
+
+-- so many entries were taken, one after the other
+pub record Taken (from to : Entries) (count : ℕ) : Type 0 where
+  pub passes : Passes from.input.code from.input.block.now from.cursor to.cursor
+  pub same : to.input ≡ from.input
+  pub left : count + to.cursor.left ≡ from.cursor.left
+
+pub taken_none : (from : Entries) → Taken from from 0
+taken_none from = record { passes = passes_none _ _ from.cursor; same = refl; left = omega arith }
+
+module _ (from to : Entries) (count : ℕ) (taken : Taken from to count) where
+  here : (P : Input → Type 0) → P to.input → P from.input
+  here P = subst P taken.same
+
+  pub taken_more : (e : Entry) (next : Entries) → Takes to (Some e) next → Taken from next (count + 1)
+  taken_more e next (step, same) =
+      let on = here (λ input. Steps input.code input.block.now to.cursor e next.cursor) step in
+      record { passes = passes_more _ _ from.cursor to.cursor next.cursor e taken.passes on; same = same ∙ taken.same; left = omega (arith, taken.left, on.fewer) }
+
+  pub taken_ends : count < from.cursor.left → (next : Entries) → Takes to None next → (n : Node) → Left from n → ⊥
+  taken_ends some next (ends, same) =
+      passes_ends _ _ from.cursor to.cursor taken.passes (omega (arith, taken.left)) (here (λ input. Ends input.code input.block.now to.cursor) ends)
+
+  pub taken_all : from.cursor.left ≤ count → Closes from.input.code from.input.block.now from.cursor to.cursor.at
+  taken_all all = passes_all _ _ from.cursor to.cursor taken.passes (omega (arith, taken.left))
 
 -- the end of a node
 
@@ -121,8 +149,10 @@ module _ (c : ℕ) (s : List ℕ) (after_tag : ℕ) (tag : Stands s 0 (0xA2 ∷ 
       is = (joins tag counted).is ∙ ap₂ (λ k tail. 0xA2 ∷ (0x61 ∷ (0x65 ∷ (head 0x80 k ++ tail)))) rest.count rest.is;
     }
 
-    pub opens : count ≤ 64 → (end : ℕ) → Closes c s start end → (first : Option (List ℕ)) → Finishes c s end first → Opens c s start first
-    opens few end closes first ends =
+    -- the node of the entries that were passed and the first link
+    pub node_read : count ≤ 64 → (end : ℕ) → Closes c s start end → (first : Option (List ℕ)) → Finishes c s end first
+        → (n : Node) × Encodes c s n × Rest c s start n × (first ≡ n.first)
+    node_read few end closes first ends =
         let n : Node = record { first = first; entries = closes.passed } in
         let rest = closes.up first ends.formed ends.is in
-        record { node = n; encodes = rest_node n few rest; rest = rest; its_first = refl; fresh = refl }
+        (n, rest_node n few rest, rest, refl)

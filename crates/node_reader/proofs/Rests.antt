@@ -1,5 +1,5 @@
 -- One entry of what is left of a node: what was read is what stands there. Assumes nothing.
-use Rattle.std.proofs.Common.{◌≡◌, ℕ, ◌+◌, ◌-◌, ◌<◌, List, [], ◌∷◌, ◌++◌, length, take, drop, Some, Option, sym, refl, ap, ◌∙◌, subst, append_assoc, arith}
+use Rattle.std.proofs.Common.{◌≡◌, ℕ, ◌+◌, List, [], ◌∷◌, ◌++◌, length, take, drop, Some, Option, sym, refl, ap, ◌∙◌, subst, append_assoc, arith}
 use Rattle.std.proofs.lemmas.List.{drop_at, length-append, length-drop, length-take-le}
 use Rattle.keys.specs.Key.{key_bytes}
 use Rattle.keys.specs.Shared.{shared}
@@ -69,10 +69,10 @@ module _ (c : ℕ) (s : List ℕ) (cursor : Cursor) (r : List ℕ) (p : ℕ) (u 
   not_extended refused e n rest = refused (found e n rest).extends
 
   -- the entry by value, and the cursor behind it
-  module _ (some : 0 < cursor.left) (x : Entry) (key : Key) (extends : Extends (key_before cursor.last) p r)
+  module _ (left : ℕ) (fewer : left + 1 ≡ cursor.left) (x : Entry) (key : Key) (extends : Extends (key_before cursor.last) p r)
       (made : key_bytes key ≡ take p (key_before cursor.last) ++ r) (is : entry_of x ≡ record { key = key_bytes key; value = v; after = u }) where
     abbrev next : Cursor
-    next = record { at = end; left = cursor.left - 1; last = Some key }
+    next = record { at = end; left = left; last = Some key }
 
     step_down : (n : Node) → Rest c s cursor n → (m : Node) × (n ≡ with_entry (entry_of x) m) × Rest c s next m
     step_down n rest = go n.entries refl
@@ -131,5 +131,5 @@ module _ (c : ℕ) (s : List ℕ) (cursor : Cursor) (r : List ℕ) (p : ℕ) (u 
               ∙ sym (append_assoc (entry c old (entry_of x)) (entries c (entry_of x).key m.entries) (closing c m.first));
         }
 
-    pub steps : Steps c s cursor x (record { at = end; left = cursor.left - 1; last = Some key })
-    steps = record { some = some; fewer = omega arith; down = step_down; up = step_up }
+    pub steps : Steps c s cursor x (record { at = end; left = left; last = Some key })
+    steps = record { some = omega arith; fewer = fewer; down = step_down; up = step_up }

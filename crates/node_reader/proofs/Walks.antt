@@ -1,20 +1,28 @@
 -- Going through a block byte by byte, and part by part. Assumes nothing.
-use Rattle.std.proofs.Common.{◌≡◌, ℕ, ◌+◌, ◌-◌, ◌<◌, ◌≤◌, Bool, true, false, cond, ltb, List, [], ◌∷◌, ◌++◌, length, get_or, take, drop, sym, ap, ◌∙◌, append_assoc, arith}
-use mathlib.Core.List.{append_cancel_left}
-use Rattle.std.proofs.lemmas.List.{drop_all, drop-drop, drop_more, length-append, length-drop, length-take, take-append-drop}
+use Rattle.std.proofs.Common.{◌≡◌, ℕ, ◌+◌, ◌-◌, ◌<◌, ◌≤◌, Bool, true, false, cond, ltb, List, [], ◌∷◌, ◌++◌, length, take, drop, sym, refl, ap, ◌∙◌, ◌≢◌, append_assoc, arith}
+use Rattle.std.proofs.lemmas.List.{drop_at, drop-drop, length-append, length-drop, length-take, take_all, take-append-drop}
+use Rattle.std.specs.List.{slice_range}
 use Rattle.node.specs.Format.{byte_string, head, link}
 use Rattle.node.proofs.Prefixes.{head_one}
-use Rattle.node_reader.specs.Items.{NoHead, NoLink, NoString, ReadsLink, ReadsString}
+use Rattle.node_reader.specs.Items.{NoHead, NoString, ReadsLink, ReadsString}
 use Rattle.node_reader.specs.Stands.{Absent, Part, Stands}
 
--- one byte on, and the end: for `grind`, at each `drop at s` in sight
-pub step : (s : List ℕ) (at : ℕ) → at < length s → drop at s ≡ get_or s at 0 ∷ drop (at + 1) s
-step s at within = drop_more s at 0 within
+-- what `get(at..)` lends is all that stands from there on
+rest_all : (s : List ℕ) (at : ℕ) → slice_range s at (length s) ≡ drop at s
+rest_all s at = take_all (length s - at) (drop at s) (omega (arith, length-drop at s))
 
-pub stop : (s : List ℕ) (at : ℕ) → length s ≤ at → drop at s ≡ []
-stop s at past = drop_all at s past
+-- where bytes stand at the front of what is lent from `at` on, and where they don't
+module _ (s : List ℕ) (at : ℕ) (p rest : List ℕ) (lent : rest ≡ slice_range s at (length s)) where
+  pub front_absent : ((r : List ℕ) → rest ≢ p ++ r) → Absent s at p
+  front_absent other = λ r e. other r (lent ∙ rest_all s at ∙ e)
 
-pub ruleset walk = (step, stop)
+  pub front_stands : (behind : List ℕ) → at ≤ length s → rest ≡ p ++ behind → Stands s at p (length s - length behind)
+  front_stands behind within is =
+      let here : drop at s ≡ p ++ behind = sym (rest_all s at) ∙ sym lent ∙ is in
+      let sizes : length s - at ≡ length p + length behind = sym (length-drop at s) ∙ ap length here ∙ length-append p behind in
+      let end : length s - length behind ≡ at + length p = omega arith in
+      let left : drop (at + length p) s ≡ behind = sym (drop-drop (length p) at s) ∙ ap (drop (length p)) here ∙ drop_at p behind (length p) refl in
+      record { within = omega arith; is = rw (end, left) here }
 
 -- a part of s from `start` on
 part_then : (s : List ℕ) (start n : ℕ) → drop start s ≡ take ((start + n) - start) (drop start s) ++ drop (start + n) s
@@ -62,20 +70,20 @@ pub string_absent : (s : List ℕ) (at m : ℕ) → NoHead s at m → NoString s
 string_absent s at m none = λ b short r e. none (length b) short (b ++ r) (simp append_assoc at e)
 
 module _ (s : List ℕ) (at start m n : ℕ) (behind : Stands s at (head m n) start) where
-  pub string_short : length s - start < n → NoString s at m
+  pub string_short : length s < start + n → NoString s at m
   string_short short = λ b small r e.
       let f : head m n ++ drop start s ≡ head m (length b) ++ (b ++ r) = sym behind.is ∙ (simp append_assoc at e) in
       let same = head_one m n (length b) (drop start s) (b ++ r) f in
-      omega (arith, same.0, simp (length-append, length-drop) at (ap length same.1))
+      omega (arith, same.0, behind.within, simp (length-append, length-drop) at (ap length same.1))
 
-  pub string_stands : n < 256 → n ≤ length s - start → ReadsString s at m (take ((start + n) - start) (drop start s)) (start + n)
-  string_stands small room =
-      let b = take ((start + n) - start) (drop start s) in
-      let size = part_length s start n (omega (arith, behind.within)) in
+  pub string_stands : (b : List ℕ) → n < 256 → start + n ≤ length s → b ≡ slice_range s start (start + n) → ReadsString s at m b (start + n)
+  string_stands b small room lent = rw lent
+      let b = slice_range s start (start + n) in
+      let size = part_length s start n room in
       record {
         short = omega arith;
         stands = record {
-          within = omega (arith, behind.within);
+          within = room;
           is =
               let f = behind.is in
               let p = part_then s start n in
@@ -83,24 +91,19 @@ module _ (s : List ℕ) (at start m n : ℕ) (behind : Stands s at (head m n) st
               cc;
         };
         ends = omega arith;
-        part = part_of s start n (omega (arith, behind.within));
+        part = part_of s start n room;
       }
 
 module _ (s : List ℕ) (at start c : ℕ) (behind : Stands s at (link c []) start) where
-  pub link_short : length s - start < 32 → NoLink s at c
-  link_short short = λ d long r e.
-      let f : link c [] ++ drop start s ≡ link c [] ++ (d ++ r) = sym behind.is ∙ e in
-      omega (arith, long, simp (length-append, length-drop) at (ap length (append_cancel_left (link c []) (drop start s) (d ++ r) f)))
-
-  pub link_stands : 32 ≤ length s - start → ReadsLink s at c (take ((start + 32) - start) (drop start s)) (start + 32)
-  link_stands room =
-      let size = part_length s start 32 (omega (arith, behind.within)) in
-      record {
-        long = size;
-        stands = record { within = omega (arith, behind.within); is = behind.is ∙ ap (λ z. link c [] ++ z) (part_then s start 32) };
-        ends = omega arith;
-        part = part_of s start 32 (omega (arith, behind.within));
+  pub link_stands : (d : List ℕ) → 32 ≤ length (slice_range s start (length s)) → d ≡ take 32 (slice_range s start (length s)) → ReadsLink s at c d (start + 32)
+  link_stands d room lent =
+      let all = rest_all s start in
+      let long : start + 32 ≤ length s = omega (arith, behind.within, length-drop start s, ap length all) in
+      let cut : (start + 32) - start ≡ 32 = omega arith in
+      let same : d ≡ take ((start + 32) - start) (drop start s) = lent ∙ ap (take 32) all ∙ ap (λ n. take n (drop start s)) (sym cut) in
+      rw same record {
+        long = part_length s start 32 long;
+        stands = record { within = long; is = behind.is ∙ ap (λ z. link c [] ++ z) (part_then s start 32) };
+        ends = omega (arith, part_length s start 32 long);
+        part = part_of s start 32 long;
       }
-
-pub link_absent : (s : List ℕ) (at c : ℕ) → Absent s at (link c []) → NoLink s at c
-link_absent s at c none = λ d long r e. none (d ++ r) e

@@ -7,16 +7,14 @@
 --   Passes       some entries, and what is left behind them
 --   Closes       all entries, and the place of the end
 --   Finishes     the end of a node, with its first link
---   Opens        a whole node
 --
 -- c is the code byte of the digest kind. Assumes nothing.
-use Rattle.std.specs.Prelude.{◌≡◌, ℕ, ◌+◌, ◌<◌, List, ◌∷◌, ◌++◌, length, take, drop, None, Option}
+use Rattle.std.specs.Prelude.{◌≡◌, ℕ, ◌+◌, ◌<◌, List, ◌∷◌, ◌++◌, length, take, drop, Option}
 use Rattle.std.specs.List.{AllByRecursion}
 use Rattle.keys.specs.Shared.{shared}
 use Rattle.keys.specs.Size.{Joins}
 use Rattle.node.specs.Format.{Node, closing, entries}
 use Rattle.node.specs.Format as format
-use Rattle.node.specs.Laws.{Encodes}
 use Rattle.node.specs.Values.{entry_of, key_before}
 use Rattle.node.specs.WellFormed.{EntryFormed, Link}
 use Rattle.node.specs.declared.entry.Entry.{Entry}
@@ -69,12 +67,3 @@ pub record Closes (c : ℕ) (s : List ℕ) (from : Cursor) (at : ℕ) : Type 0 w
 pub record Finishes (c : ℕ) (s : List ℕ) (at : ℕ) (first : Option (List ℕ)) : Type 0 where
   pub formed : Link first
   pub is : drop at s ≡ closing c first
-
--- the block is the encoding of a node, whose entries begin at the cursor
-pub record Opens (c : ℕ) (s : List ℕ) (start : Cursor) (first : Option (List ℕ)) : Type 0 where
-  pub node : Node
-  pub encodes : Encodes c s node
-  pub rest : Rest c s start node
-  pub its_first : first ≡ node.first
-  -- it is a cursor before the first entry
-  pub fresh : start.last ≡ None

@@ -1,6 +1,5 @@
-// Where a reader of entries stands.
+// Where the entries of a node go on.
 use keys::Key;
-use node::Entry;
 
 // The place of the next entry, how many are to come, and the key before it.
 #[derive(Clone, Copy)]
@@ -8,11 +7,4 @@ pub struct Cursor {
     pub(crate) at: usize,
     pub(crate) left: usize,
     pub(crate) last: Option<Key>,
-}
-
-// An entry, and the cursor behind it.
-#[derive(Clone, Copy)]
-pub struct Step {
-    pub entry: Entry,
-    pub next: Cursor,
 }

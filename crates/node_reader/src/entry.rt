@@ -1,9 +1,10 @@
 // An entry as it stands in a block.
 ghost use Rattle.std.specs.Option.{MatchOption};
-ghost use Rattle.node_reader.specs.Entries.{NoEntry, NoLinkOrNull, ReadsEntry, ReadsLinkOrNull, lent};
+ghost use Rattle.node_reader.specs.Entries.{NoEntry, ReadsEntry};
 
-use crate::part::{read_head, read_link, read_string, skip};
+use crate::input::Input;
 use digest::DigestKind;
+use node::MajorType;
 
 // The parts of an entry, lent from the block.
 #[derive(Clone, Copy)]
@@ -14,68 +15,40 @@ pub struct EntryParts<'a> {
     // How many bytes it shares.
     pub shared: u8,
     // The digests of the link after the key and of the record's link.
-    pub after: Option<&'a [u8]>,
-    pub value: &'a [u8],
+    pub after: Option<&'a [u8; 32]>,
+    pub value: &'a [u8; 32],
 }
 
 // The entry at `at`, and where it ends. Its rest of a key is that very part of the block.
 pub fn read_entry<K: DigestKind>(block: &[u8], at: usize) -> Option<(EntryParts<'_>, usize)>
     ensures { MatchOption result (NoEntry block.now at K.DigestKind.kind.code) (λ v. ReadsEntry block.now at K.DigestKind.kind.code v.0 v.1) }
 {
-    let code = K::code_byte();
-    read_parts(block, at, code)
+    Input::new::<K>(block).entry(at)
 }
 
-// The same, under a code.
-pub(crate) fn read_parts(block: &[u8], at: usize, code: u8) -> Option<(EntryParts<'_>, usize)>
-    ensures { MatchOption result (NoEntry block.now at code) (λ v. ReadsEntry block.now at code v.0 v.1) }
-{
-    let Some(at_k) = skip(block, at, &[0xA4, 0x61, 0x6B]) else {
-        return None;
-    };
-    let Some((rest, end_k)) = read_string(block, at_k, 0x40) else {
-        return None;
-    };
-    let Some(at_p) = skip(block, end_k, &[0x61, 0x70]) else {
-        return None;
-    };
-    let Some((shared, end_p)) = read_head(block, at_p, 0x00) else {
-        return None;
-    };
-    let Some(at_t) = skip(block, end_p, &[0x61, 0x74]) else {
-        return None;
-    };
-    let Some((after, end_t)) = read_link_or_null(block, at_t, code) else {
-        return None;
-    };
-    let Some(at_v) = skip(block, end_t, &[0x61, 0x76]) else {
-        return None;
-    };
-    let Some((value, end)) = read_link(block, at_v, code) else {
-        return None;
-    };
-    let place = end_k - rest.len();
-    Some((
-        EntryParts {
-            rest,
-            place,
-            shared,
-            after,
-            value,
-        },
-        end,
-    ))
-}
-
-// The digest of the link at `at`, or none of a null there, and where it ends.
-pub(crate) fn read_link_or_null(block: &[u8], at: usize, code: u8) -> Option<(Option<&[u8]>, usize)>
-    ensures { MatchOption result (NoLinkOrNull block.now at code) (λ v. ReadsLinkOrNull block.now at code (lent v.0) v.1) }
-{
-    if let Some((digest, end)) = read_link(block, at, code) {
-        return Some((Some(digest), end));
+impl<'a> Input<'a> {
+    // The entry at `at`, and where it ends.
+    pub(crate) fn entry(self, at: usize) -> Option<(EntryParts<'a>, usize)>
+        ensures { MatchOption result (NoEntry self.entry.block.now at self.entry.code) (λ v. ReadsEntry self.entry.block.now at self.entry.code v.0 v.1) }
+    {
+        let at_k = self.skip(at, &[0xA4, 0x61, b'k'])?;
+        let (rest, end_k) = self.string(at_k, MajorType::Bytes)?;
+        let at_p = self.skip(end_k, &[0x61, b'p'])?;
+        let (shared, end_p) = self.head(at_p, MajorType::Number)?;
+        let at_t = self.skip(end_p, &[0x61, b't'])?;
+        let (after, end_t) = self.link_or_null(at_t)?;
+        let at_v = self.skip(end_t, &[0x61, b'v'])?;
+        let (value, end) = self.link(at_v)?;
+        let place = end_k - rest.len();
+        Some((
+            EntryParts {
+                rest,
+                place,
+                shared,
+                after,
+                value,
+            },
+            end,
+        ))
     }
-    let Some(end) = skip(block, at, &[0xF6]) else {
-        return None;
-    };
-    Some((None, end))
 }

@@ -2,8 +2,9 @@
 ghost use Rattle.std.specs.Option.{MatchOption};
 ghost use Rattle.node_reader.specs.Items.{NoItem, ReadsItem};
 
-use crate::part::{read_head, read_link, read_string, skip};
+use crate::input::Input;
 use digest::DigestKind;
+use node::MajorType;
 
 // An item, as the part of the block that it is, with the place where that part begins. Of an array or a map only the head is an item;
 // its elements follow.
@@ -14,7 +15,7 @@ pub enum Item<'a> {
     Text(&'a [u8], usize),
     Array(u8),
     Map(u8),
-    Link(&'a [u8], usize),
+    Link(&'a [u8; 32], usize),
     Null,
 }
 
@@ -22,26 +23,24 @@ pub enum Item<'a> {
 pub fn read_item<K: DigestKind>(block: &[u8], at: usize) -> Option<(Item<'_>, usize)>
     ensures { MatchOption result (NoItem block.now at K.DigestKind.kind.code) (λ v. ReadsItem block.now at K.DigestKind.kind.code v.0 v.1) }
 {
-    if let Some((n, end)) = read_head(block, at, 0x00) {
+    let input = Input::new::<K>(block);
+    if let Some((n, end)) = input.head(at, MajorType::Number) {
         return Some((Item::Number(n), end));
     }
-    if let Some((bytes, end)) = read_string(block, at, 0x40) {
+    if let Some((bytes, end)) = input.string(at, MajorType::Bytes) {
         return Some((Item::Bytes(bytes, end - bytes.len()), end));
     }
-    if let Some((text, end)) = read_string(block, at, 0x60) {
+    if let Some((text, end)) = input.string(at, MajorType::Text) {
         return Some((Item::Text(text, end - text.len()), end));
     }
-    if let Some((n, end)) = read_head(block, at, 0x80) {
+    if let Some((n, end)) = input.head(at, MajorType::Array) {
         return Some((Item::Array(n), end));
     }
-    if let Some((n, end)) = read_head(block, at, 0xA0) {
+    if let Some((n, end)) = input.head(at, MajorType::Map) {
         return Some((Item::Map(n), end));
     }
-    if let Some((digest, end)) = read_link(block, at, K::code_byte()) {
+    if let Some((digest, end)) = input.link(at) {
         return Some((Item::Link(digest, end - digest.len()), end));
     }
-    let Some(end) = skip(block, at, &[0xF6]) else {
-        return None;
-    };
-    Some((Item::Null, end))
+    Some((Item::Null, input.skip(at, &[0xF6])?))
 }

@@ -1,6 +1,6 @@
 -- Memory that is cut into pieces of one size: where a piece stands, and that writing one leaves the others. Kinds of store that live in lent
 -- memory cite this. Assumes nothing.
-use Rattle.std.proofs.Common.{◌≡◌, ℕ, zero, suc, ◌+◌, ◌*◌, ◌<◌, ◌≤◌, List, [], ◌∷◌, ◌++◌, length, get_or, take, drop, set, refl, ap, ◌∙◌, mul-le-mul_right, suc-mul, add_comm, zero-mul, arith}
+use Rattle.std.proofs.Common.{◌≡◌, ℕ, zero, suc, ◌+◌, ◌*◌, ◌<◌, ◌≤◌, List, [], ◌∷◌, length, get_or, take, drop, set, refl, ap, mul-le-mul_right, suc-mul, zero-mul, arith}
 use borrow.Rule.Slice.PartMut.{put_mid}
 use Rattle.std.specs.Simd.{first_chunks}
 use Rattle.std.proofs.lemmas.List.{drop_at, drop-append-le, drop-drop, drop-take, length-append, length-drop, length-take, take_at}
@@ -12,32 +12,24 @@ length_chunked n (suc k) m = ap suc (length_chunked n k (drop n m))
 
 pub getD_chunked : (n k i : ℕ) (m : List ℕ) → i < k → get_or (first_chunks n k m) i [] ≡ take n (drop (i * n) m)
 getD_chunked n zero i m within = absurd (omega arith)
-getD_chunked n (suc k) zero m within = rw zero-mul
-getD_chunked n (suc k) (suc i) m within =
-    let past : drop (suc i * n) m ≡ drop (i * n) (drop n m) = rw (drop-drop, suc-mul, add_comm (i * n) n) in
-    rw past (getD_chunked n k i (drop n m) (omega arith))
+getD_chunked n (suc k) zero m within = grind (arith, zero-mul)
+getD_chunked n (suc k) (suc i) m within = grind (arith, drop-drop, suc-mul, getD_chunked n k i (drop n m))
 
 -- a write past the first bytes is a write to the rest
 later : (n j k : ℕ) (m w : List ℕ) → n ≤ length m → drop n (put_mid (n + j) k m w) ≡ put_mid j k (drop n m) w
-later n j k m w room =
-    let front : n ≤ length (take (n + j) m) = omega (arith, length-take (n + j) m) in
-    drop-append-le n (take (n + j) m) (w ++ drop k (drop (n + j) m)) front
-    ∙ rw (drop-take n j m, drop-drop j n m)
+later n j k m w room = grind (arith, length-take, drop-append-le, drop-take, drop-drop)
 
 pub chunked_put : (n k i : ℕ) (m w : List ℕ) → i < k → k * n ≤ length m → length w ≡ n → first_chunks n k (put_mid (i * n) n m w) ≡ set (first_chunks n k m) i w
 chunked_put n zero i m w within room long = absurd (omega arith)
-chunked_put n (suc k) zero m w within room long =
-    rw (zero-mul, take_at w (drop n m) n long, drop_at w (drop n m) n long)
+chunked_put n (suc k) zero m w within room long = grind (arith, zero-mul, take_at, drop_at)
 chunked_put n (suc k) (suc i) m w within room long =
     let one : n ≤ length m = omega (arith, suc-mul k n) in
     let rest : k * n ≤ length (drop n m) = omega (arith, suc-mul k n, length-drop n m) in
     let below : i * n ≤ k * n = mul-le-mul_right n (omega arith) in
     let inside : n + i * n ≤ length m = omega (arith, suc-mul k n) in
-    let at : suc i * n ≡ n + i * n = suc-mul i n ∙ add_comm (i * n) n in
+    let at : suc i * n ≡ n + i * n = omega (arith, suc-mul i n) in
     rw (at, take-put_mid_below (n + i * n) n m w n (omega arith) inside, later n (i * n) n m w one)
     (ap (λ more. take n m ∷ more) (chunked_put n k i (drop n m) w (omega arith) rest long))
 
 pub length-put : (a k : ℕ) (m w : List ℕ) → a + k ≤ length m → length w ≡ k → length (put_mid a k m w) ≡ length m
-length-put a k m w room long =
-    length-append (take a m) (w ++ drop k (drop a m))
-    ∙ omega (arith, length-append w (drop k (drop a m)), length-take a m, length-drop k (drop a m), length-drop a m)
+length-put a k m w room long = grind (arith, length-append, length-take, length-drop)

@@ -1,5 +1,3 @@
-pub mod Finds
-pub mod Copies
 pub mod Runs
 pub mod Outcomes
 pub mod Chunks

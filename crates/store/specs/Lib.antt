@@ -4,3 +4,5 @@ pub mod Calls
 pub mod Drafts
 pub mod Copies
 pub mod Runs
+pub mod Blocks
+pub mod Text

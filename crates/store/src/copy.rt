@@ -22,8 +22,6 @@ pub fn copy_block<S: Store, T: Store>(
     let Some(len) = from.find(name, work)? else {
         return Ok(false);
     };
-    match to.put(name, &work[0..len]) {
-        Ok(()) => Ok(true),
-        Err(fault) => Err(fault),
-    }
+    to.put(name, &work[..len])?;
+    Ok(true)
 }

@@ -4,9 +4,10 @@ ghost use Rattle.store.specs.Answer.{told};
 ghost use Rattle.store.specs.Calls.{left_by, outcome, put_answer, put_after};
 ghost use Rattle.store.specs.Drafts.{draft_of, draft_lawful};
 
+use crate::admission::admit;
 use crate::compared::Compared;
 use crate::fault::Fault;
-use crate::store::{BLOCK_LIMIT, Store};
+use crate::store::Store;
 use digest::Digest;
 
 #[derive(Drop)]
@@ -21,9 +22,9 @@ impl<F: Store, B: Store> Store for Draft<F, B> {
     ghost lawful = { λ d. draft_lawful (F.Store.meaning d.front) (B.Store.meaning d.back) (F.Store.lawful d.front) (B.Store.lawful d.back) };
 
     fn find(&self, name: &Digest, out: &mut [u8]) -> Result<Option<usize>, Fault> {
-        match self.front.find(name, out) {
-            Ok(None) => self.back.find(name, out),
-            other => other,
+        match self.front.find(name, out)? {
+            None => self.back.find(name, out),
+            found => Ok(found),
         }
     }
 
@@ -40,13 +41,9 @@ impl<F: Store, B: Store> Store for Draft<F, B> {
         ensures front { F.Store.meaning self.new.front ≡ left_by (outcome (draft_of (F.Store.meaning self.old.front) (B.Store.meaning self.old.back)) name.now.bytes block.now) (F.Store.meaning self.old.front) name.now.bytes block.now }
         ensures back { self.new.back ≡ self.old.back }
     {
-        if block.len() > BLOCK_LIMIT {
-            return Err(Fault::BlockTooLong);
-        }
-        match self.compare(name, block) {
-            Compared::Absent => self.front.put(name, block),
-            Compared::Same => Ok(()),
-            Compared::Other => Err(Fault::Conflict),
+        match admit(block, self.compare(name, block))? {
+            Some(block) => self.front.put(name, block.bytes),
+            None => Ok(()),
         }
     }
 

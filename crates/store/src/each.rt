@@ -9,7 +9,7 @@ use crate::store::Store;
 use digest::Digest;
 
 // What each call answered.
-#[derive(Clone, Copy)]
+#[derive(Clone, Copy, Debug, PartialEq, Eq, Hash)]
 pub struct Answers {
     pub found: Result<Option<usize>, Fault>,
     pub compared: Compared,

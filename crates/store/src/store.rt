@@ -8,19 +8,13 @@ use crate::compared::Compared;
 use crate::fault::Fault;
 use digest::Digest;
 
-// The most bytes that a block has.
-pub const BLOCK_LIMIT: usize = 10752;
-
+// A name and a block are arguments of their own: callers have them apart, and a struct of both would be made for one call.
 pub trait Store {
     // What the store means: the block under each name, the free units, and what a block of each length costs.
     ghost meaning: { Self → Meaning };
 
-    // Names are 32 bytes, blocks keep the limit, and nothing is free of cost. Each impl gives the proof: a `law` would say the same, and has
-    // no generated proof where an impl has a lifetime parameter.
-    ghost lawful: { (s : Self) → Lawful (meaning s) };
-
     // Copies the block of this name to the start of `out`, and answers its length; none where the name is absent. Past the block, and
-    // where none is copied, `out` stays as it is.
+    // where none is copied, `out` stays as it is. The buffer is the caller's, since no store takes memory.
     fn find(&self, name: &Digest, out: &mut [u8]) -> Result<Option<usize>, Fault>
         ensures answer { told result ≡ find_answer (meaning self.now) name.now.bytes (length out.old) }
         ensures buffer { out.new ≡ find_buffer (meaning self.now) name.now.bytes out.old }
@@ -42,4 +36,7 @@ pub trait Store {
     // The units that a block of `len` bytes costs.
     fn cost(&self, len: usize) -> usize
         ensures { result ≡ (meaning self.now).cost len };
+
+    // Names are 32 bytes, blocks keep the limit, and nothing is free of cost.
+    ghost lawful: { (s : Self) → Lawful (meaning s) };
 }

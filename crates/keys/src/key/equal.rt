@@ -1,4 +1,4 @@
-// Keys are equal where their bytes are.
+// Keys are equal where their bytes are. By hand: a derive would compare what stands in the room past them too.
 ghost use Rattle.std.specs.Prelude.{◌≡◌, ◌↔◌, IsTrue};
 ghost use Rattle.std.specs.Cmp.Rules.{comparing};
 ghost use Rattle.std.specs.Ordering.{on};
@@ -19,4 +19,8 @@ impl PartialEq for Key {
     {
         self.as_slice() == other.as_slice()
     }
+}
+
+impl Eq for Key {
+    ghost laws = { Prim.search (comparing, rules) };
 }

@@ -11,6 +11,6 @@ impl Key {
         ensures value { result.now ≡ key_bytes self.now }
         ensures sized { KeySized (length result.now) }
     {
-        &self.bytes[0..self.len]
+        &self.bytes[..self.len]
     }
 }

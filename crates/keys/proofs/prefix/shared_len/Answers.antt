@@ -1,24 +1,17 @@
--- The bytes counted, and what is shared past them, are what is shared.
-use Rattle.std.proofs.Common.{◌≡◌, arith}
+-- As many bytes as the front of the strings side by side has pairs of equal bytes.
+use Rattle.std.proofs.Common.{◌≡◌, ◌∙◌, rules, tests}
+use Rattle.std.proofs.lemmas.Iterator.{YieldsList-from_slice, YieldsList-from_zip}
+use Rattle.std.proofs.lemmas.Iterator.Consumers.{count_from_yields_List}
+use Rattle.std.proofs.lemmas.Iterator.Search.{YieldsList-from_take_while}
 use Rattle.keys.specs.Shared.{shared}
-use Rattle.keys.proofs.Fronts.{shared_none, longest_shared}
-use Rattle.keys.proofs.Walks.{walk}
+use Rattle.keys.proofs.Fronts.{same_bytes, length-zip_front, longest_shared}
 use Rattle.keys.proofs.prefix.shared_len.Goals as goal
 
-pub loop-n-preserved : goal.loop-n-preserved
-loop-n-preserved c = grind (arith, walk)
-
-pub returns-else-a-n : goal.returns-else-a-n
-returns-else-a-n c =
-    let is : c.loop-n.n ≡ shared c.args.a.now c.args.b.now = grind (arith, walk) in
-    record { value = is; longest = longest_shared _ _ _ is }
-
-pub returns-else-n-b : goal.returns-else-n-b
-returns-else-n-b c =
-    let is : c.loop-n.n ≡ shared c.args.a.now c.args.b.now = grind (arith, walk, shared_none) in
-    record { value = is; longest = longest_shared _ _ _ is }
-
-pub returns-after-loop-n : goal.returns-after-loop-n
-returns-after-loop-n c =
-    let is : c.loop-n.n ≡ shared c.args.a.now c.args.b.now = grind (arith, walk) in
-    record { value = is; longest = longest_shared _ _ _ is }
+pub returns : goal.returns
+returns c =
+    let a = c.args.a.now in
+    let b = c.args.b.now in
+    let both = YieldsList-from_zip (YieldsList-from_slice a cc) (YieldsList-from_slice b cc) in
+    let is : c.count.result ≡ shared a b =
+    count_from_yields_List c.take_while.result _ c.count.ensures.ran (YieldsList-from_take_while _ same_bytes both c.take_while.ensures.closure c.take_while.ensures.done (λ x r q k. search (rules, tests))) ∙ length-zip_front a b in
+    record { value = is; longest = longest_shared a b _ is }

@@ -1,0 +1,94 @@
+// The parts that a node's bytes are made of.
+ghost use Rattle.std.specs.Prelude.{◌≡◌, ◌<◌, length, MatchOption};
+ghost use Rattle.node.specs.Format.{head};
+ghost use Rattle.node.specs.Major.{major_base};
+ghost use Rattle.node_reader.specs.Entries.{NoLinkOrNull, ReadsLinkOrNull, lent};
+ghost use Rattle.node_reader.specs.Items.{NoHead, NoLink, NoString, ReadsLink, ReadsString};
+ghost use Rattle.node_reader.specs.Stands.{Absent, Stands};
+
+use digest::DigestKind;
+use node::MajorType;
+
+// A number up to this one stands in the head itself; a larger one follows it in a byte of its own.
+const IN_HEAD: u8 = 23;
+
+// In the head: the number stands in the next byte.
+const IN_NEXT: u8 = 24;
+
+// A block, and the code of the links in it.
+#[derive(Clone, Copy)]
+pub struct Input<'a> {
+    pub(crate) block: &'a [u8],
+    pub(crate) code: u8,
+}
+
+impl<'a> Input<'a> {
+    // A block whose links are those of the kind `K`.
+    pub(crate) fn new<K: DigestKind>(block: &'a [u8]) -> Input<'a>
+        ensures block { result.block.now ≡ block.now }
+        ensures code { result.code ≡ K.DigestKind.kind.code }
+    {
+        Input {
+            block,
+            code: K::CODE,
+        }
+    }
+
+    // Where `expected` ends, if it stands at `at`.
+    pub(crate) fn skip(self, at: usize, expected: &[u8]) -> Option<usize>
+        requires { 0 < length expected.now }
+        ensures { MatchOption result (Absent self.entry.block.now at expected.now) (λ end. Stands self.entry.block.now at expected.now end) }
+    {
+        let behind = self.block.get(at..)?.strip_prefix(expected)?;
+        Some(self.block.len() - behind.len())
+    }
+
+    // The number in a head of this type at `at`, and where the head ends.
+    pub(crate) fn head(self, at: usize, major: MajorType) -> Option<(u8, usize)>
+        ensures { MatchOption result (NoHead self.entry.block.now at (major_base major)) (λ v. Stands self.entry.block.now at (head (major_base major) v.0) v.1) }
+    {
+        let n = self.block.get(at)?.checked_sub(major.base())?;
+        if n <= IN_HEAD {
+            return Some((n, at + 1));
+        }
+        if n > IN_NEXT {
+            return None;
+        }
+        let n = *self.block.get(at + 1)?;
+        if n <= IN_HEAD {
+            return None;
+        }
+        Some((n, at + 2))
+    }
+
+    // The bytes of a string of this type at `at`, and where they end.
+    pub(crate) fn string(self, at: usize, major: MajorType) -> Option<(&'a [u8], usize)>
+        ensures { MatchOption result (NoString self.entry.block.now at (major_base major)) (λ v. ReadsString self.entry.block.now at (major_base major) v.0.now v.1) }
+    {
+        let (len, start) = self.head(at, major)?;
+        let end = start + len as usize;
+        Some((self.block.get(start..end)?, end))
+    }
+
+    // The digest of the link at `at`, and where it ends.
+    pub(crate) fn link(self, at: usize) -> Option<(&'a [u8; 32], usize)>
+        ensures { MatchOption result (NoLink self.entry.block.now at self.entry.code) (λ v. ReadsLink self.entry.block.now at self.entry.code v.0.now v.1) }
+    {
+        let start = self.skip(
+            at,
+            &[0xD8, 0x2A, 0x58, 0x25, 0x00, 0x01, 0x71, self.code, 0x20],
+        )?;
+        let digest = self.block[start..].first_chunk::<32>()?;
+        Some((digest, start + 32))
+    }
+
+    // The digest of the link at `at`, or none of a null there, and where it ends.
+    pub(crate) fn link_or_null(self, at: usize) -> Option<(Option<&'a [u8; 32]>, usize)>
+        ensures { MatchOption result (NoLinkOrNull self.entry.block.now at self.entry.code) (λ v. ReadsLinkOrNull self.entry.block.now at self.entry.code (lent v.0) v.1) }
+    {
+        if let Some((digest, end)) = self.link(at) {
+            return Some((Some(digest), end));
+        }
+        Some((None, self.skip(at, &[0xF6])?))
+    }
+}
