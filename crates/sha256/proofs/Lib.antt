@@ -1,7 +1,6 @@
 pub mod Chunks
 pub mod Folds
 pub mod Pads
-pub mod Puts
 pub mod Schedules
 pub mod Primes
 pub mod Roots

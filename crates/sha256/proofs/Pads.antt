@@ -1,24 +1,52 @@
--- A buffer of zeros with the rest of a message, a one bit and a length put into it is the padded rest. Assumes nothing.
-use Rattle.std.proofs.Common.{◌≡◌, ℕ, ◌+◌, ◌-◌, ◌≤◌, List, [], ◌∷◌, ◌++◌, length, take, drop, replicate, sym, refl, ap, ◌∙◌, arith}
-use Rattle.std.proofs.lemmas.List.{append_assoc, drop-replicate, length-append, length-replicate, replicate-append-replicate, take_at}
-use Rattle.sha256.specs.Buffer.{put}
-use Rattle.sha256.proofs.Puts.{put_after}
+-- The blocks of a padded rest. Assumes nothing.
+use Rattle.std.proofs.Common.{◌≡◌, ℕ, suc, ◌+◌, ◌-◌, ◌%◌, ◌<◌, ◌≤◌, List, [], ◌∷◌, ◌++◌, length, take, drop, set, replicate, sym, refl, ap, ◌∙◌, arith}
+use Rattle.std.proofs.lemmas.List.{append_assoc, drop-replicate, drop_at, length-append, length-replicate, replicate-append-replicate, set_at, take_all, take_at}
+use Rattle.sha256.specs.Padding.{blocks, length_bytes, padding, zeros}
 
-pub padded_rest : (rest tail : List ℕ) (room end zeros : ℕ) → length tail ≡ 8 → end ≡ length rest + 1 + zeros + 8 → end ≤ room
-    → take end (put (put (put (replicate room 0) 0 rest) (length rest) (0x80 ∷ [])) (end - 8) tail) ≡ rest ++ (0x80 ∷ (replicate zeros 0 ++ tail))
-padded_rest rest tail room end zeros eight ends fits =
-    let n = length rest in
-    let front = rest ++ (0x80 ∷ replicate zeros 0) in
-    let left = room - n - 1 - zeros in
-    let put_rest : put (replicate room 0) 0 rest ≡ rest ++ replicate (room - n) 0
-    = put_after [] (replicate room 0) rest 0 refl ∙ ap (λ z. rest ++ z) (drop-replicate n room 0) in
-    let put_one : put (rest ++ replicate (room - n) 0) n (0x80 ∷ []) ≡ rest ++ (0x80 ∷ replicate (room - n - 1) 0)
-    = put_after rest (replicate (room - n) 0) (0x80 ∷ []) n refl ∙ ap (λ z. rest ++ (0x80 ∷ z)) (drop-replicate 1 (room - n) 0) in
-    let enough : zeros + left ≡ room - n - 1 = omega arith in
-    let split : rest ++ (0x80 ∷ replicate (room - n - 1) 0) ≡ front ++ replicate left 0
-    = ap (λ z. rest ++ (0x80 ∷ z)) (ap (λ k. replicate k 0) (sym enough) ∙ sym (replicate-append-replicate {A = ℕ} zeros left 0))
-    ∙ sym (append_assoc rest (0x80 ∷ replicate zeros 0) (replicate left 0)) in
-    let size : length front ≡ end - 8 = length-append rest (0x80 ∷ replicate zeros 0) ∙ omega (arith, length-replicate {A = ℕ} zeros 0) in
-    let whole : length (front ++ tail) ≡ end = length-append front tail ∙ omega arith in
-    rw (put_rest, put_one, split, put_after front (replicate left 0) tail (end - 8) size, ← (append_assoc front tail (drop (length tail) (replicate left 0))))
-    (take_at (front ++ tail) (drop (length tail) (replicate left 0)) end whole ∙ append_assoc rest (0x80 ∷ replicate zeros 0) tail)
+-- a block of zeros with the rest and a one bit written into it
+pub marked : (rest : List ℕ) → length rest < 64
+    → set (rest ++ drop (length rest) (replicate 64 0)) (length rest) 0x80 ≡ rest ++ (0x80 ∷ replicate (63 - length rest) 0)
+marked rest short =
+    let one_less : 64 - length rest ≡ suc (63 - length rest) = omega arith in
+    rw (drop-replicate {X = ℕ} (length rest) 64 0, one_less) (set_at rest 0 (replicate (63 - length rest) 0) 0x80 (length rest) refl)
+
+-- zeros, and those that follow them
+split : (rest : List ℕ) (a b n : ℕ) → a + b ≡ n → rest ++ (0x80 ∷ replicate n 0) ≡ (rest ++ (0x80 ∷ replicate a 0)) ++ replicate b 0
+split rest a b n sum =
+    ap (λ z. rest ++ (0x80 ∷ z)) (ap (λ k. replicate k 0) (sym sum) ∙ sym (replicate-append-replicate {A = ℕ} a b 0))
+    ∙ sym (append_assoc rest (0x80 ∷ replicate a 0) (replicate b 0))
+
+one_block : (bytes : List ℕ) → length bytes ≡ 64 → blocks bytes ≡ bytes ∷ []
+unfolding blocks
+one_block bytes long = rw long (ap (λ b. b ∷ []) (take_all 64 bytes (omega arith)))
+
+two_blocks : (first second : List ℕ) → length first ≡ 64 → length second ≡ 64 → blocks (first ++ second) ≡ first ∷ (second ∷ [])
+unfolding blocks
+two_blocks first second long also =
+    let both : length (first ++ second) ≡ 128 = length-append first second ∙ omega arith in
+    rw (both, take_at first second 64 long, drop_at first second 64 long) (ap (λ b. first ∷ (b ∷ [])) (take_all 64 second (omega arith)))
+
+pub blocks_one : (rest : List ℕ) (len : ℕ) → length rest ≡ len % 64 → length rest < 56
+    → (take 56 (rest ++ (0x80 ∷ replicate (63 - length rest) 0)) ++ length_bytes len) ∷ [] ≡ blocks (rest ++ padding len)
+unfolding padding
+blocks_one rest len left short =
+    let front = rest ++ (0x80 ∷ replicate (zeros len) 0) in
+    let size : length front ≡ 56 = length-append rest (0x80 ∷ replicate (zeros len) 0) ∙ omega (arith, length-replicate {A = ℕ} (zeros len) 0) in
+    let whole : length (front ++ length_bytes len) ≡ 64 = length-append front (length_bytes len) ∙ omega arith in
+    rw (split rest (zeros len) 8 (63 - length rest) (omega arith), take_at front (replicate 8 0) 56 size)
+    (sym (one_block (front ++ length_bytes len) whole) ∙ ap blocks (append_assoc rest (0x80 ∷ replicate (zeros len) 0) (length_bytes len)))
+
+pub blocks_two : (rest : List ℕ) (len : ℕ) → length rest ≡ len % 64 → 56 ≤ length rest
+    → (rest ++ (0x80 ∷ replicate (63 - length rest) 0)) ∷ ((take 56 (replicate 64 0) ++ length_bytes len) ∷ []) ≡ blocks (rest ++ padding len)
+unfolding padding
+blocks_two rest len left long =
+    let n = 63 - length rest in
+    let front = rest ++ (0x80 ∷ replicate n 0) in
+    let back = replicate 56 0 ++ length_bytes len in
+    let size : length front ≡ 64 = length-append rest (0x80 ∷ replicate n 0) ∙ omega (arith, length-replicate {A = ℕ} n 0) in
+    let enough : zeros len ≡ n + 56 = omega arith in
+    let joined : rest ++ (0x80 ∷ (replicate (zeros len) 0 ++ length_bytes len)) ≡ front ++ back
+    = sym (append_assoc rest (0x80 ∷ replicate (zeros len) 0) (length_bytes len))
+    ∙ ap (λ z. z ++ length_bytes len) (split rest n 56 (zeros len) (sym enough))
+    ∙ append_assoc front (replicate 56 0) (length_bytes len) in
+    sym (two_blocks front back size refl) ∙ ap blocks (sym joined)

@@ -4,4 +4,4 @@ pub mod Rule
 pub mod Rounds
 pub mod Padding
 pub mod Sha256
-pub mod Buffer
+pub mod Tail

@@ -9,7 +9,8 @@
 --   compress_all    the state after several
 --
 -- Assumes nothing.
-use Rattle.std.specs.Prelude.{ℕ, zero, suc, ◌-◌, List, [], ◌∷◌, ◌++◌, map, length, slice_index}
+use Rattle.std.specs.Prelude.{ℕ, zero, suc, ◌-◌, List, [], ◌∷◌, ◌++◌, map, length, slice_index, fold}
+use Rattle.std.specs.List.{zip}
 use Rattle.std.specs.Simd.{first_chunks}
 use Rattle.sha256.specs.declared.state.State.{State}
 use Rattle.sha256.specs.Constants.{constants}
@@ -40,9 +41,7 @@ round s k w = turn (add (add (add (add s.h (Σ₁ s.e)) (ch s.e s.f s.g)) k) w) 
     turn t₁ t₂ = record { a = add t₁ t₂; b = s.a; c = s.b; d = s.c; e = add s.d t₁; f = s.e; g = s.f; h = s.g }
 
 abbrev pub rounds : State → List ℕ → List ℕ → State
-rounds s [] ws = s
-rounds s (k ∷ ks) [] = s
-rounds s (k ∷ ks) (w ∷ ws) = rounds (round s k w) ks ws
+rounds s ks ws = fold (λ s p. round s p.0 p.1) s (zip ks ws)
 
 -- the words of two states, added one by one
 abbrev pub add_states : State → State → State
@@ -61,5 +60,4 @@ unfoldable pub compress : State → List ℕ → State
 compress s block = add_states s (rounds s constants (schedule block))
 
 abbrev pub compress_all : State → List (List ℕ) → State
-compress_all s [] = s
-compress_all s (block ∷ blocks) = compress_all (compress s block) blocks
+compress_all = fold compress

@@ -3,7 +3,8 @@
 --   add                   addition modulo 2 ^ 32
 --   rotr, shr             rotation and shift to the right
 --   ch, maj               x chooses between y and z; the majority of x, y and z
---   Σ₀, Σ₁, σ₀, σ₁        the four sums of rotations and shifts
+--   rotations             the sum, bit by bit, of three rotations, and rotations_and_shift, of two and a shift
+--   Σ₀, Σ₁, σ₀, σ₁        the four sums of the standard
 --   word, word_bytes      a word of four bytes, high byte first, and back
 --
 -- Assumes nothing.
@@ -29,17 +30,25 @@ ch x y z = bit_xor (bit_and x y) (bit_and (complement x) z)
 abbrev pub maj : ℕ → ℕ → ℕ → ℕ
 maj x y z = bit_xor (bit_xor (bit_and x y) (bit_and x z)) (bit_and y z)
 
+-- three rotations
+abbrev pub rotations : ℕ → ℕ → ℕ → ℕ → ℕ
+rotations a b c x = bit_xor (bit_xor (rotr a x) (rotr b x)) (rotr c x)
+
+-- two rotations and a shift
+abbrev pub rotations_and_shift : ℕ → ℕ → ℕ → ℕ → ℕ
+rotations_and_shift a b c x = bit_xor (bit_xor (rotr a x) (rotr b x)) (shr c x)
+
 abbrev pub Σ₀ : ℕ → ℕ
-Σ₀ x = bit_xor (bit_xor (rotr 2 x) (rotr 13 x)) (rotr 22 x)
+Σ₀ = rotations 2 13 22
 
 abbrev pub Σ₁ : ℕ → ℕ
-Σ₁ x = bit_xor (bit_xor (rotr 6 x) (rotr 11 x)) (rotr 25 x)
+Σ₁ = rotations 6 11 25
 
 abbrev pub σ₀ : ℕ → ℕ
-σ₀ x = bit_xor (bit_xor (rotr 7 x) (rotr 18 x)) (shr 3 x)
+σ₀ = rotations_and_shift 7 18 3
 
 abbrev pub σ₁ : ℕ → ℕ
-σ₁ x = bit_xor (bit_xor (rotr 17 x) (rotr 19 x)) (shr 10 x)
+σ₁ = rotations_and_shift 17 19 10
 
 abbrev pub word : List ℕ → ℕ
 word bytes = slice_index bytes 0 * 2 ^ 24 + slice_index bytes 1 * 2 ^ 16 + slice_index bytes 2 * 2 ^ 8 + slice_index bytes 3

@@ -1,68 +1,52 @@
 // The compression of blocks.
-ghost use Rattle.std.specs.Prelude.{◌≡◌, ◌+◌, ◌<◌, ◌≤◌, slice_index};
-ghost use Rattle.std.specs.List.{between};
-ghost use Rattle.sha256.specs.Constants.{constants};
-ghost use Rattle.sha256.specs.Rounds.{compress, compress_all, message_words, next_word, round, rounds, schedule};
+ghost use Rattle.std.specs.Prelude.{◌≡◌, ◌<◌, ◌≤◌};
+ghost use Rattle.sha256.specs.Rounds.{compress, compress_all, message_words, next_word, rounds, schedule};
 
 use crate::state::State;
-use crate::tables::constant;
+use crate::tables::round_constants;
 use crate::words::{small_sigma0, small_sigma1};
+use std::array;
 
 // The state after several blocks.
 pub(crate) fn compress_all(start: State, blocks: &[[u8; 64]]) -> State
     ensures { result ≡ compress_all start blocks.now }
 {
-    let mut state = start;
-    for block in blocks {
-        state = compress(state, block);
-    }
-    state
+    blocks.iter().fold(start, compress)
 }
 
-// The state after one block: 64 rounds, and the state before them added.
+// The state after one block: 64 rounds, and the state before them added. They go eight at a time for speed: the compiler writes out a loop
+// of eight, and then no word moves between them.
 fn compress(start: State, block: &[u8; 64]) -> State
     ensures { result ≡ compress start block.now }
 {
     let words = schedule(block);
-    let mut state = start;
-    for i in 0..8 {
-        state = eight_rounds(state, &words, 8 * i);
-    }
+    let (constants, _) = round_constants().as_chunks::<8>();
+    let (words, _) = words.as_chunks::<8>();
+    let state = constants.iter().zip(words).fold(
+        start,
+        |state, (constants, words)| eight_rounds(state, constants, words),
+    );
     start.add(state)
 }
 
-// The eight rounds from `t` on, written out for speed: no word moves between them.
-fn eight_rounds(start: State, words: &[u32; 64], t: usize) -> State
-    requires { t + 8 ≤ 64 }
-    ensures { result ≡ rounds start (between t (t + 8) constants) (between t (t + 8) words.now) }
+// A round for each of eight constants and words.
+fn eight_rounds(start: State, constants: &[u32; 8], words: &[u32; 8]) -> State
+    ensures { result ≡ rounds start constants.now words.now }
 {
-    let state = one_round(start, words, t);
-    let state = one_round(state, words, t + 1);
-    let state = one_round(state, words, t + 2);
-    let state = one_round(state, words, t + 3);
-    let state = one_round(state, words, t + 4);
-    let state = one_round(state, words, t + 5);
-    let state = one_round(state, words, t + 6);
-    one_round(state, words, t + 7)
+    constants.iter().zip(words).fold(
+        start,
+        |state, (constant, word)| state.round(*constant, *word),
+    )
 }
 
-// Round `t`.
-fn one_round(start: State, words: &[u32; 64], t: usize) -> State
-    requires { t < 64 }
-    ensures { result ≡ round start (slice_index constants t) (slice_index words.now t) }
-{
-    start.round(constant(t), words[t])
-}
-
-// The 64 words of the rounds: those of the block, and 48 made from them, two at a time.
+// The 64 words of the rounds: those of the block, and 48 made from them.
 fn schedule(block: &[u8; 64]) -> [u32; 64]
     ensures { result ≡ schedule block.now }
 {
     let mut words = [0u32; 64];
-    words[0..16].copy_from_slice(&message_words(block));
-    for i in 8..32 {
-        words[2 * i] = next_word(&words, 2 * i);
-        words[2 * i + 1] = next_word(&words, 2 * i + 1);
+    words[..16].copy_from_slice(&message_words(block));
+    for t in 16..64 {
+        words[t] = next_word(&words, t);
     }
     words
 }
@@ -84,9 +68,5 @@ fn message_words(block: &[u8; 64]) -> [u32; 16]
     ensures { result ≡ message_words block.now }
 {
     let (chunks, _) = block.as_chunks::<4>();
-    let mut words = [0u32; 16];
-    for (t, chunk) in chunks.iter().enumerate() {
-        words[t] = u32::from_be_bytes(*chunk);
-    }
-    words
+    array::from_fn(|t| u32::from_be_bytes(chunks[t]))
 }

@@ -22,7 +22,7 @@ impl DigestKind for Sha256 {
         let (blocks, rest) = message.as_chunks::<64>();
         let state = compress_all(start_state(), blocks);
         let tail = pad(rest, message.len());
-        let (last, _) = tail.bytes[0..tail.len].as_chunks::<64>();
+        let last = tail.as_blocks();
         Digest {
             bytes: compress_all(state, last).to_bytes(),
         }

@@ -4,7 +4,6 @@
 #![tactic(auto)]
 
 mod block;
-mod buffer;
 mod kind;
 mod padding;
 mod state;

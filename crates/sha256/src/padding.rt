@@ -1,32 +1,53 @@
 // The end of a message, padded to whole blocks.
-ghost use Rattle.std.specs.Prelude.{◌≡◌, ◌%◌, ◌≤◌, ◌++◌, length, take};
-ghost use Rattle.sha256.specs.Padding.{LeastZeros, length_bytes, padding};
+ghost use Rattle.std.specs.Prelude.{◌≡◌, ◌%◌, ◌++◌, length, take};
+ghost use Rattle.sha256.specs.Padding.{LeastZeros, blocks, length_bytes, padding};
+ghost use Rattle.sha256.specs.Tail.{tail_blocks};
 
-use crate::buffer::put;
+use std::slice;
 
 // Where the length begins in the last block.
 const LENGTH_AT: usize = 56;
 
-// One block or two, at the start of room for two.
+// The last block of a padded message, or the last two.
 #[derive(Clone, Copy)]
-pub(crate) struct Tail {
-    pub(crate) bytes: [u8; 128],
-    pub(crate) len: usize,
+pub(crate) enum Tail {
+    One([u8; 64]),
+    Two([[u8; 64]; 2]),
+}
+
+impl Tail {
+    pub(crate) fn as_blocks(&self) -> &[[u8; 64]]
+        ensures { result.now ≡ tail_blocks self.now }
+    {
+        match self {
+            Tail::One(block) => slice::from_ref(block),
+            Tail::Two(blocks) => blocks,
+        }
+    }
 }
 
 // The bytes of a message of `len` bytes that fill no block, and the padding.
 pub(crate) fn pad(rest: &[u8], len: usize) -> Tail
     requires { length rest.now ≡ len % 64 }
-    ensures bytes { take result.len result.bytes ≡ rest.now ++ padding len }
+    ensures blocks { tail_blocks result ≡ blocks (rest.now ++ padding len) }
     ensures shortest { LeastZeros len }
-    ensures bound { result.len ≤ 128 }
 {
-    let mut bytes = [0u8; 128];
-    put(&mut bytes, 0, rest);
-    put(&mut bytes, rest.len(), &[0x80]);
-    let end = if rest.len() < LENGTH_AT { 64 } else { 128 };
-    put(&mut bytes, end - 8, &length_bytes(len));
-    Tail { bytes, len: end }
+    let mut block = [0u8; 64];
+    block[..rest.len()].copy_from_slice(rest);
+    block[rest.len()] = 0x80;
+    if rest.len() < LENGTH_AT {
+        Tail::One(ended(block, len))
+    } else {
+        Tail::Two([block, ended([0; 64], len)])
+    }
+}
+
+// A block with the length of the message at its end.
+fn ended(mut block: [u8; 64], len: usize) -> [u8; 64]
+    ensures { result ≡ take LENGTH_AT block ++ length_bytes len }
+{
+    block[LENGTH_AT..].copy_from_slice(&length_bytes(len));
+    block
 }
 
 // The length of a message in bits, modulo 2^64, high byte first.

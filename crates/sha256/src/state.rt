@@ -3,7 +3,6 @@ ghost use Rattle.std.specs.Prelude.{◌≡◌};
 ghost use Rattle.sha256.specs.Rounds.{add_states, round};
 ghost use Rattle.sha256.specs.Sha256.{state_bytes};
 
-use crate::buffer::put;
 use crate::words::{big_sigma0, big_sigma1, choose, majority};
 
 // The hash value, and the working variables of the rounds.
@@ -66,10 +65,8 @@ impl State {
         let words = [
             self.a, self.b, self.c, self.d, self.e, self.f, self.g, self.h,
         ];
-        let mut bytes = [0u8; 32];
-        for (i, word) in words.iter().enumerate() {
-            put(&mut bytes, 4 * i, &word.to_be_bytes());
-        }
+        let mut bytes = [0; 32];
+        bytes.copy_from_slice(words.map(u32::to_be_bytes).as_flattened());
         bytes
     }
 }

@@ -1,5 +1,5 @@
 // The numbers of SHA-256.
-ghost use Rattle.std.specs.Prelude.{◌≡◌, ◌<◌, slice_index};
+ghost use Rattle.std.specs.Prelude.{◌≡◌};
 ghost use Rattle.sha256.specs.Constants.{constants};
 ghost use Rattle.sha256.specs.Rule.{RootFractions};
 ghost use Rattle.sha256.specs.Sha256.{start, state_words};
@@ -19,7 +19,7 @@ const START: State = State {
 };
 
 // The first 32 bits of the fractions of the cube roots of the first 64 primes.
-const CONSTANTS: [u32; 64] = [
+static CONSTANTS: [u32; 64] = [
     0x428a2f98, 0x71374491, 0xb5c0fbcf, 0xe9b5dba5, 0x3956c25b, 0x59f111f1, 0x923f82a4, 0xab1c5ed5,
     0xd807aa98, 0x12835b01, 0x243185be, 0x550c7dc3, 0x72be5d74, 0x80deb1fe, 0x9bdc06a7, 0xc19bf174,
     0xe49b69c1, 0xefbe4786, 0x0fc19dc6, 0x240ca1cc, 0x2de92c6f, 0x4a7484aa, 0x5cb0a9dc, 0x76f988da,
@@ -38,11 +38,10 @@ pub(crate) fn start_state() -> State
     START
 }
 
-// The constant of round `t`.
-pub(crate) fn constant(t: usize) -> u32
-    requires { t < 64 }
-    ensures value { result ≡ slice_index constants t }
-    ensures rule { RootFractions 3 constants }
+// The constants of the rounds.
+pub(crate) fn round_constants() -> &'static [u32; 64]
+    ensures value { result.now ≡ constants }
+    ensures rule { RootFractions 3 result.now }
 {
-    CONSTANTS[t]
+    &CONSTANTS
 }

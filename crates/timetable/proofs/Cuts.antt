@@ -1,37 +1,27 @@
 -- Cutting a text at its first newline again and again gives its lines, and the lines give the text back. Assumes nothing.
-use Rattle.std.proofs.Common.{◌≡◌, ℕ, ◌+◌, ◌-◌, ◌<◌, Bool, true, false, cond, eqb, List, [], ◌∷◌, ◌++◌, length, take, drop, sym, refl, ap, ◌∙◌, inl, inr, ⊎_elim, arith}
+use Rattle.std.proofs.Common.{◌≡◌, ℕ, ◌+◌, ◌<◌, ◌≤◌, Bool, true, false, cond, eqb, List, [], ◌∷◌, ◌++◌, length, get_or, take, drop, sym, refl, ap, ◌∙◌, inl, inr, ⊎_elim, arith}
 use Rattle.std.specs.List.{flat_map, AllByRecursion}
 use Rattle.std.proofs.ByRecursion.{All-from_get_or}
-use Rattle.std.proofs.lemmas.List.{take_all, nil_from_length, drop_more, get_or-take, length-take-le, length-drop, length-append, take-append-drop, take_rest}
+use Rattle.std.proofs.lemmas.List.{drop_more, get_or-take, length-take-le, length-append, take-append-drop}
 use Rattle.std.proofs.lemmas.Bool.{eqb-true, eqb-false, ne_eqb}
-use Rattle.timetable.specs.Lines.{newline, terminated, before, lines, Line, Closed, LinesOf, FirstNewline, Splits}
+use Rattle.timetable.specs.Lines.{newline, terminated, before, lines, Line, Closed, LinesOf, Splits}
 
 -- the first newline cuts the first line off
 
-line_before : (text : List ℕ) (n : ℕ) → FirstNewline text n → Line (take n text)
-line_before text n first =
-    let long = length-take-le n text first.within in
-    All-from_get_or (λ b. b ≡ newline → ⊥) (take n text) 0
-    (λ i inside is. first.none i (omega arith) (sym (get_or-take n text i 0 (omega arith)) ∙ is))
+pub splits_none : (text : List ℕ) → ((k : ℕ) → k < length text → get_or text k 0 ≡ newline → ⊥) → Splits text text []
+splits_none text none = record {
+  one = All-from_get_or (λ b. b ≡ newline → ⊥) text 0 none;
+  whole = inl (refl, refl);
+}
 
-pub splits_last : (text : List ℕ) (n : ℕ) → FirstNewline text n → (line rest : List ℕ) → line ≡ take n text → rest ≡ drop n text
-    → length rest ≡ 0 → Splits text line rest
-splits_last text n first line rest front back none =
-    let long = ap length back ∙ length-drop n text in
-    rw front record {
-      one = line_before text n first;
-      whole = inl (sym (take_all n text (omega arith)), nil_from_length rest none);
-    }
-
-pub splits_newline : (text : List ℕ) (n : ℕ) → FirstNewline text n → (line rest : List ℕ) → line ≡ take n text → rest ≡ drop n text
-    → 0 < length rest → Splits text line (take (length rest - 1) (drop 1 rest))
-splits_newline text n first line rest front back some =
-    let inside : n < length text = omega (arith, ap length back, length-drop n text) in
-    let here : rest ≡ newline ∷ drop (n + 1) text = back ∙ drop_more text n 0 inside ∙ ap (λ b. b ∷ drop (n + 1) text) (first.here inside) in
-    let after : take (length rest - 1) (drop 1 rest) ≡ drop (n + 1) text = take_rest rest 1 ∙ ap (drop 1) here in
-    rw (front, after) record {
-      one = line_before text n first;
-      whole = inr (sym (take-append-drop n text) ∙ ap (λ xs. take n text ++ xs) (sym back ∙ here));
+pub splits_at : (text : List ℕ) (n : ℕ) → n < length text → get_or text n 0 ≡ newline → ((k : ℕ) → k < n → get_or text k 0 ≡ newline → ⊥)
+    → Splits text (take n text) (drop (n + 1) text)
+splits_at text n inside here none =
+    let long = length-take-le n text (omega arith) in
+    record {
+      one = All-from_get_or (λ b. b ≡ newline → ⊥) (take n text) 0
+          (λ i h is. none i (omega arith) (sym (get_or-take n text i 0 (omega arith)) ∙ is));
+      whole = inr (sym (take-append-drop n text) ∙ ap (λ xs. take n text ++ xs) (drop_more text n 0 inside ∙ ap (λ b. b ∷ drop (n + 1) text) here));
     }
 
 -- what is left to cut
@@ -56,12 +46,20 @@ lines_split text line rest cut some =
     (λ w. rw w (lines-newline line rest cut.one))
     cut.whole
 
-pub split_shorter : (text line rest : List ℕ) → Splits text line rest → 0 < length text → length rest < length text
-split_shorter text line rest cut some =
-    ⊎_elim
-    (λ w. omega (arith, ap length w.1))
-    (λ w. omega (arith, ap length w, length-append line (newline ∷ rest)))
-    cut.whole
+-- no more lines than bytes
+
+before_few : (b : ℕ) (ls : List (List ℕ)) → length (before b ls) ≤ length ls + 1
+before_few b [] = omega arith
+before_few b (line ∷ rest) = omega arith
+
+few_more : (b : ℕ) (t : Bool) (ls : List (List ℕ)) → length (cond t ([] ∷ ls) (before b ls)) ≤ length ls + 1
+few_more b true ls = omega arith
+few_more b false ls = before_few b ls
+
+pub length-lines-le : (text : List ℕ) → length (lines text) ≤ length text
+unfolding lines
+length-lines-le [] = omega arith
+length-lines-le (b ∷ text) = omega (arith, few_more b (eqb b newline) (lines text), length-lines-le text)
 
 -- no line has a newline in it
 

@@ -1,16 +1,15 @@
 -- Answering the lines of a text one by one gives its transcript. Assumes nothing.
-use Rattle.std.proofs.Common.{◌≡◌, ℕ, ◌+◌, ◌<◌, ◌≤◌, ltb, List, [], ◌∷◌, ◌++◌, length, Some, None, codes, decimal, Option, sym, ap, ◌∙◌, append_assoc, append-nil, arith}
-use Rattle.std.proofs.lemmas.List.{nil_from_length}
+use Rattle.std.proofs.Common.{◌≡◌, ℕ, ◌+◌, ◌<◌, ◌≤◌, ltb, List, [], ◌∷◌, ◌++◌, length, Some, None, codes, decimal, Option, sym, refl, ap, ◌∙◌, append_assoc, append-nil, arith}
 use Rattle.std.proofs.lemmas.Bool.{cond-true, cond-false, lt-ltb, le-ltb}
 use Rattle.digest.specs.Hex.{hex}
 use Rattle.digest.specs.Kind.{Kind}
 use Rattle.timetable.specs.Command.{Parses}
-use Rattle.timetable.specs.Lines.{newline, terminated, lines, Splits}
+use Rattle.timetable.specs.Lines.{newline, terminated, lines}
 use Rattle.timetable.specs.Session.{limit, empty_node, reply, answer, answers_from, transcript}
 use Rattle.timetable.specs.declared.command.Command.{Command}
 use Rattle.timetable.specs.declared.command.Command.TheVariants.{Root}
 use Rattle.timetable.proofs.Commands.{command_from_parses}
-use Rattle.timetable.proofs.Cuts.{lines_split, split_shorter}
+use Rattle.timetable.proofs.Cuts.{length-lines-le}
 
 answer_is : (κ : Kind) (number : ℕ) (line : List ℕ) (c : Option Command) → Parses line c → answer κ number line ≡ reply κ number c
 unfolding answer
@@ -26,30 +25,27 @@ pub answer_bad : (κ : Kind) (number : ℕ) (line out text : List ℕ) → Parse
 answer_bad κ number line out text parses is =
     ap (λ xs. out ++ xs) (is ∙ sym (append_assoc (codes "bad ") (decimal number) (newline ∷ [])) ∙ sym (answer_is κ number line None parses))
 
--- what is written, and the answers to the rest from this number on, are the answers to all lines of the input
-pub record Answered (κ : Kind) (input out : List ℕ) (number : ℕ) (rest : List ℕ) : Type 0 where
-  pub all : out ++ answers_from κ number (lines rest) ≡ answers_from κ 1 (lines input)
-  pub few : number + length rest ≤ length input + 1
+-- what is written, and the answers to the lines that are left, after this many, are the answers to all lines of the input
+pub record Answered (κ : Kind) (input out : List ℕ) (count : ℕ) (left : List (List ℕ)) : Type 0 where
+  pub all : out ++ answers_from κ (count + 1) left ≡ answers_from κ 1 (lines input)
+  pub few : count + length left ≤ length input
 
-pub answered_none : (κ : Kind) (input out : List ℕ) → out ≡ [] → Answered κ input out 1 input
-answered_none κ input out none = record { all = rw none; few = omega arith }
+pub answered_none : (κ : Kind) (input out : List ℕ) (count : ℕ) (left : List (List ℕ)) → out ≡ [] → count ≡ 0 → left ≡ lines input → Answered κ input out count left
+answered_none κ input out count left none start is = rw (none, start, is) record { all = refl; few = omega (arith, length-lines-le input) }
 
-pub answered_more : (κ : Kind) (input out : List ℕ) (number : ℕ) (rest line after more : List ℕ) → Answered κ input out number rest
-    → Splits rest line after → 0 < length rest → more ≡ out ++ answer κ number line → Answered κ input more (number + 1) after
+pub answered_more : (κ : Kind) (input out : List ℕ) (count : ℕ) (line : List ℕ) (left left' : List (List ℕ)) (more : List ℕ) → Answered κ input out count left
+    → left ≡ line ∷ left' → more ≡ out ++ answer κ (count + 1) line → Answered κ input more (count + 1) left'
 unfolding answers_from
-answered_more κ input out number rest line after more so_far cut some is =
-    let first : answers_from κ number (lines rest) ≡ answer κ number line ++ answers_from κ (number + 1) (lines after)
-    = ap (answers_from κ number) (lines_split rest line after cut some) in
-    record {
-      all = rw is (append_assoc out _ _ ∙ ap (λ xs. out ++ xs) (sym first) ∙ so_far.all);
-      few = omega (arith, so_far.few, split_shorter rest line after cut some);
-    }
+answered_more κ input out count line left left' more so_far one is = record {
+  all = rw is (append_assoc out _ _ ∙ ap (λ ls. out ++ answers_from κ (count + 1) ls) (sym one) ∙ so_far.all);
+  few = omega (arith, so_far.few, ap length one);
+}
 
-pub answered_all : (κ : Kind) (input out : List ℕ) (number : ℕ) (rest : List ℕ) → Answered κ input out number rest → length rest ≡ 0
+pub answered_all : (κ : Kind) (input out : List ℕ) (count : ℕ) (left : List (List ℕ)) → Answered κ input out count left → left ≡ []
     → length input ≤ limit → out ≡ transcript κ input
-unfolding lines answers_from transcript
-answered_all κ input out number rest so_far none short =
-    let end : answers_from κ number (lines rest) ≡ [] = ap (λ text. answers_from κ number (lines text)) (nil_from_length rest none) in
+unfolding answers_from transcript
+answered_all κ input out count left so_far none short =
+    let end : answers_from κ (count + 1) left ≡ [] = ap (answers_from κ (count + 1)) none in
     sym (append-nil out) ∙ ap (λ xs. out ++ xs) (sym end) ∙ so_far.all ∙ sym (cond-false (ltb limit (length input)) _ _ (le-ltb limit (length input) short))
 
 pub transcript_long : (κ : Kind) (input : List ℕ) → limit < length input → transcript κ input ≡ terminated (codes "too long")

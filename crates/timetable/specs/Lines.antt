@@ -7,11 +7,10 @@
 --   Line            bytes with no newline among them
 --   Closed          a text that is empty or ends with a newline
 --   LinesOf         what the lines of a text are
---   FirstNewline    the length of the first line
 --   Splits          the first line and the text after it
 --
 -- Assumes nothing.
-use Rattle.std.specs.Prelude.{◌≡◌, ℕ, ◌<◌, ◌≤◌, cond, ◌⊎◌, List, [], ◌∷◌, ◌++◌, length, ◌==◌, ◌≢◌, slice_index}
+use Rattle.std.specs.Prelude.{◌≡◌, ℕ, cond, ◌⊎◌, List, [], ◌∷◌, ◌++◌, ◌==◌, ◌≢◌}
 use Rattle.std.specs.List.{flat_map, AllByRecursion}
 
 -- 0A
@@ -48,14 +47,6 @@ pub record LinesOf (text : List ℕ) (ls : List (List ℕ)) : Type 0 where
   pub closed : Closed text → flat_map terminated ls ≡ text
   -- or, where the last line lacks its newline, the text with a newline after it
   pub unclosed : (Closed text → ⊥) → flat_map terminated ls ≡ terminated text
-
--- n is the index of the first newline, or the length of the text where there is none
-pub record FirstNewline (text : List ℕ) (n : ℕ) : Type 0 where
-  pub within : n ≤ length text
-  -- no newline stands before n
-  pub none : (k : ℕ) → k < n → slice_index text k ≢ newline
-  -- one stands at n, unless the text ends there
-  pub here : n < length text → slice_index text n ≡ newline
 
 -- the text begins with this line, and the rest follows
 pub record Splits (text line rest : List ℕ) : Type 0 where

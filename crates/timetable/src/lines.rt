@@ -1,25 +1,39 @@
 // A text cut into lines.
-ghost use Rattle.timetable.specs.Lines.{FirstNewline, Splits};
+ghost use Rattle.timetable.specs.Lines.{Splits};
 
-// The length of the first line: the index of the first newline, or the length of the text where there is none.
-fn line_length(text: &[u8]) -> usize
-    ensures { FirstNewline text.now result }
-{
-    for (i, byte) in text.iter().enumerate() {
-        if *byte == b'\n' {
-            return i;
+// The lines of a text, without their newlines.
+#[derive(Drop)]
+pub struct Lines<'a> {
+    // The text after the lines that were given.
+    pub rest: &'a [u8],
+}
+
+impl<'a> Iterator for Lines<'a> {
+    type Item = &'a [u8];
+
+    ghost use Rattle.std.specs.Iterator.{YieldsFirstRef, item_count};
+    ghost use Rattle.timetable.specs.Lines.{lines};
+
+    ghost next_gives = { YieldsFirstRef (λ s. lines s.rest.now) };
+
+    ghost remaining = { item_count (λ s. lines s.rest.now) };
+
+    fn next(&mut self) -> Option<&'a [u8]> {
+        if self.rest.is_empty() {
+            return None;
         }
+        let (line, rest) = split_line(self.rest);
+        self.rest = rest;
+        Some(line)
     }
-    text.len()
 }
 
 // The first line, without its newline, and the text after it.
-pub fn split_line(text: &[u8]) -> (&[u8], &[u8])
+fn split_line(text: &[u8]) -> (&[u8], &[u8])
     ensures { Splits text.now result.0.now result.1.now }
 {
-    let (line, rest) = text.split_at(line_length(text));
-    match rest {
-        [] => (line, rest),
-        [_, after @ ..] => (line, after),
+    match text.iter().position(|byte| *byte == b'\n') {
+        Some(end) => (&text[..end], &text[end + 1..]),
+        None => (text, &[]),
     }
 }

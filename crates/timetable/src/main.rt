@@ -5,7 +5,7 @@
 //   session   the answers to a whole input
 #![tactic(auto)]
 
-ghost use Rattle.std.specs.Prelude.{◌<◌, ◌≤◌, length, IfOk};
+ghost use Rattle.std.specs.Prelude.{◌≡◌, ◌+◌, take, IfOk, IfSome};
 ghost use Rattle.timetable.specs.Session.{limit};
 
 mod command;
@@ -14,32 +14,24 @@ mod session;
 
 use session::{LIMIT, answers};
 use sha256::Sha256;
+use std::alloc::Global;
 use std::io;
 use std::io::{Read, Write};
 
-// Room for one byte more than a session takes.
-const BUFFER: usize = LIMIT + 1;
+// One byte more than a session takes.
+const ENOUGH: u64 = LIMIT as u64 + 1;
 
 fn main(rt: HostRuntime) -> io::Result<()> {
-    let mut buffer = [0u8; BUFFER];
-    let count = read_input(&mut rt.stdin(), &mut buffer)?;
-    let out = answers::<Sha256>(rt.alloc(), &buffer[0..count])?;
+    let input = read_input(rt.alloc(), rt.stdin())?;
+    let out = answers::<Sha256>(rt.alloc(), &input)?;
     rt.stdout().write_all(&out)
 }
 
-// Reads until the buffer is full or the input ends, and says how many bytes came. The buffer has room for more than the
-// limit, so an input that is too long is seen to be.
-fn read_input<R: Read>(input: &mut R, buffer: &mut [u8]) -> io::Result<usize>
-    requires { limit < length buffer.old }
-    ensures { IfOk result (λ n. n ≤ length buffer.new) }
+// All bytes of the input, or enough of them to see that it is too long.
+fn read_input<R: Read + Drop>(heap: Global, input: R) -> io::Result<Vec<u8>>
+    ensures { IfOk result (λ v. IfSome (R.remaining input) (λ bytes. v.items ≡ take (limit + 1) bytes)) }
 {
-    let mut filled = 0;
-    for _ in 0..buffer.len() {
-        let count = input.read(&mut buffer[filled..])?;
-        if count == 0 {
-            break;
-        }
-        filled += count;
-    }
-    Ok(filled)
+    let mut bytes = Vec::new(heap);
+    input.take(ENOUGH).read_to_end(&mut bytes)?;
+    Ok(bytes)
 }

@@ -3,8 +3,8 @@ ghost use Rattle.std.specs.Prelude.{◌≡◌, ◌++◌, IfOk, OnOk};
 ghost use Rattle.timetable.specs.Lines.{lines, LinesOf};
 ghost use Rattle.timetable.specs.Session.{answer, transcript};
 
-use crate::command::Command;
-use crate::lines::split_line;
+use crate::command::{Command, NotACommand};
+use crate::lines::Lines;
 use digest::DigestKind;
 use std::alloc::{AllocError, Global};
 
@@ -23,13 +23,8 @@ pub fn answers<K: DigestKind>(heap: Global, input: &[u8]) -> Result<Vec<u8>, All
         return Vec::from_slice(heap, b"too long\n");
     }
     let mut out = Vec::new(heap);
-    let mut number = 1;
-    let mut rest = input;
-    while !rest.is_empty() {
-        let (line, after) = split_line(rest);
-        push_answer::<K>(&mut out, heap, number, line)?;
-        number += 1;
-        rest = after;
+    for (i, line) in (Lines { rest: input }).enumerate() {
+        push_answer::<K>(&mut out, heap, i + 1, line)?;
     }
     Ok(out)
 }
@@ -43,12 +38,12 @@ fn push_answer<K: DigestKind>(
 ) -> Result<(), AllocError>
     ensures { OnOk result (out.new.items ≡ out.old.items ++ answer K.DigestKind.kind number line.now) }
 {
-    match Command::parse(line) {
-        Some(Command::Root) => {
+    match Command::try_from(line) {
+        Ok(Command::Root) => {
             out.extend_from_slice(&K::digest(&EMPTY_NODE).to_hex())?;
             out.push(b'\n')?;
         }
-        None => {
+        Err(NotACommand) => {
             let refusal = format!(in heap; "bad {number}\n")?;
             out.extend_from_slice(refusal.as_bytes())?;
         }

@@ -41,9 +41,5 @@ pub const FIVE_KEYS: [&str; 5] = [
 pub(crate) fn counted(heap: Global, len: usize) -> Result<Vec<u8>, AllocError>
     ensures { IfOk result (λ v. v.items ≡ counted_bytes len) }
 {
-    let mut bytes = Vec::new(heap);
-    for i in 0..len {
-        bytes.push((i % 251) as u8)?;
-    }
-    Ok(bytes)
+    (0..len).map(|i| (i % 251) as u8).collect(heap)
 }

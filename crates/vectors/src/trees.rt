@@ -46,7 +46,8 @@ pub(crate) fn lone_root(key: &str) -> Option<Digest> {
 
 // A key of layer 1 between two and two of layer 0.
 pub(crate) fn five_root(keys: [&str; 5]) -> Option<Digest> {
-    let left = node_digest(None, &[entry(keys[0], None)?, entry(keys[1], None)?])?;
-    let right = node_digest(None, &[entry(keys[3], None)?, entry(keys[4], None)?])?;
-    node_digest(Some(left), &[entry(keys[2], Some(right))?])
+    let [first, second, middle, fourth, last] = keys;
+    let left = node_digest(None, &[entry(first, None)?, entry(second, None)?])?;
+    let right = node_digest(None, &[entry(fourth, None)?, entry(last, None)?])?;
+    node_digest(Some(left), &[entry(middle, Some(right))?])
 }

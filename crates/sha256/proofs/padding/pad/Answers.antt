@@ -1,21 +1,19 @@
--- The buffer holds the padded rest, up to the end of its one block or two.
-use Rattle.std.proofs.Common.{◌≡◌, ◌+◌, length, take, refl, ap, ◌∙◌, arith}
-use Rattle.sha256.specs.Padding.{padding, length_bytes, zeros}
-use Rattle.sha256.proofs.Pads.{padded_rest}
+-- The blocks that were written are those of the padded rest.
+use Rattle.std.proofs.Common.{◌++◌, ◌∷◌, [], drop, take, replicate, length, set, ap, ◌∙◌, arith}
+use Rattle.sha256.specs.Padding.{length_bytes}
+use Rattle.sha256.proofs.Pads.{marked, blocks_one, blocks_two}
 use Rattle.sha256.proofs.padding.pad.Goals as goal
-use Rattle.sha256.proofs.padding.pad.Goals.{then-rest-lt-LENGTH_AT, else-rest-lt-LENGTH_AT}
 
-pub returns : goal.returns
-unfolding padding
-returns c =
+pub returns-then-rest-lt-LENGTH_AT-clause-blocks : goal.returns-then-rest-lt-LENGTH_AT-clause-blocks
+returns-then-rest-lt-LENGTH_AT-clause-blocks c =
     let rest = c.args.rest.now in
-    let len = c.args.len in
-    let end = c.if-rest-lt-LENGTH_AT.end in
-    let ends : end ≡ length rest + 1 + zeros len + 8
-    = elim c.if-rest-lt-LENGTH_AT.branch [ then-rest-lt-LENGTH_AT w ↦ omega (arith, w.end-is, w.if-rest-lt-LENGTH_AT.true) | else-rest-lt-LENGTH_AT w ↦ omega (arith, w.end-is, w.if-rest-lt-LENGTH_AT.false) ] in
-    record {
-      bytes = ap (take end) (c.put-3.ensures ∙ rw (c.put-2.ensures, c.put.ensures, c.length_bytes.ensures))
-          ∙ padded_rest rest (length_bytes len) 128 end (zeros len) refl ends (omega arith);
-      shortest = record { reaches = omega arith; least = λ k e. omega arith };
-      bound = omega arith;
-    }
+    let copied = ap (λ front. set (front ++ drop (length rest) (replicate 64 0)) (length rest) 0x80) c.copy_from_slice.ensures.after ∙ marked rest (omega arith) in
+    ap (λ block. block ∷ []) (c.ended.ensures ∙ ap (λ block. take 56 block ++ length_bytes c.args.len) copied)
+    ∙ blocks_one rest c.args.len c.requires c.if-rest-lt-LENGTH_AT.true
+
+pub returns-else-rest-lt-LENGTH_AT-clause-blocks : goal.returns-else-rest-lt-LENGTH_AT-clause-blocks
+returns-else-rest-lt-LENGTH_AT-clause-blocks c =
+    let rest = c.args.rest.now in
+    let copied = ap (λ front. set (front ++ drop (length rest) (replicate 64 0)) (length rest) 0x80) c.copy_from_slice.ensures.after ∙ marked rest (omega arith) in
+    rw c.ended-else-rest-lt-LENGTH_AT.ensures
+    (ap (λ block. block ∷ ((take 56 (replicate 64 0) ++ length_bytes c.args.len) ∷ [])) copied ∙ blocks_two rest c.args.len c.requires c.if-rest-lt-LENGTH_AT.false)

@@ -1,6 +1,8 @@
-use Rattle.std.proofs.Common.{sym, ◌∙◌, arith, true-eqb, false-eqb}
+use Rattle.std.proofs.Common.{◌≡◌, length, sym, ap, ◌∙◌, inl, rules, arith}
+use Rattle.std.specs.Iterator.Adapters.{enumerate_source, enumerate_count}
 use Rattle.std.proofs.lemmas.Result.{IfOk-weaker, IfOk-from_err}
-use Rattle.timetable.proofs.Cuts.{lines_of, split_shorter}
+use Rattle.timetable.specs.Lines.{lines}
+use Rattle.timetable.proofs.Cuts.{length-lines-le, lines_of}
 use Rattle.timetable.proofs.Sessions.{answered_none, answered_more, answered_all, transcript_long}
 use Rattle.timetable.proofs.session.answers.Goals as goal
 
@@ -16,18 +18,24 @@ returns-in_err-push_answer g c = record {
   lines = lines_of _;
 }
 
-pub loop-rest-init : goal.loop-rest-init
-loop-rest-init g c = answered_none _ _ _ c.new-out.ensures.items
+pub loop-i-init : goal.loop-i-init
+loop-i-init g c =
+    let it = c.into_iter-i-iterator.result in
+    let start : enumerate_count it ≡ 0 = search rules in
+    let left : lines (enumerate_source it).rest.now ≡ lines c.args.input.now = search rules in
+    let few = length-lines-le c.args.input.now in
+    ((tt, tt, inl (omega (arith, ap length left))), tt, answered_none _ _ _ _ _ c.new-out.ensures.items start left)
 
-pub loop-rest-smaller : goal.loop-rest-smaller
-loop-rest-smaller g c = split_shorter _ _ _ c.split_line.ensures (omega (arith, false-eqb _ 0 c.loop-rest-test.ensures))
-
-pub loop-rest-preserved : goal.loop-rest-preserved
-loop-rest-preserved g c =
-    answered_more _ _ _ _ _ _ _ _ c.loop-rest.invariant c.split_line.ensures (omega (arith, false-eqb _ 0 c.loop-rest-test.ensures)) c.in_ok-push_answer.ensures
+pub loop-i-preserved : goal.loop-i-preserved
+loop-i-preserved g c =
+    let so_far = c.loop-i.invariant.2 in
+    let step = c.in-Some.ensures.steps in
+    let more = answered_more _ _ _ _ _ _ _ _ so_far step.0 (rw step.1 at c.in_ok-push_answer.ensures) in
+    let now = rw (← step.2) at more in
+    ((tt, tt, inl (omega (arith, now.few))), tt, now)
 
 pub returns : goal.returns
 returns g c = record {
-  transcript = answered_all _ _ _ _ _ c.loop-rest.invariant (true-eqb _ 0 c.loop-rest-test.ensures) c.if-input-gt-LIMIT.false;
+  transcript = answered_all _ _ _ _ _ c.loop-i.invariant.2 c.in-None.ensures.steps.0.0 c.if-input-gt-LIMIT.false;
   lines = lines_of _;
 }

@@ -5,13 +5,13 @@ use Rattle.timetable.specs.Lines.{newline}
 use Rattle.timetable.proofs.Sessions.{answer-root, answer_bad}
 use Rattle.timetable.proofs.session.push_answer.Goals as goal
 
-pub returns-in_ok-push-in-Some-Root : goal.returns-in_ok-push-in-Some-Root
-returns-in_ok-push-in-Some-Root g c =
-    let digits = pushed c.to_hex.result refl c.in_ok-extend_from_slice-in-Some-Root.was c.extend_from_slice.ensures.items in
-    pushed (newline ∷ []) digits c.in_ok-push-in-Some-Root.was c.push.ensures.items
-    ∙ answer-root _ c.args.number _ _ _ _ c.in-Some-Root.ensures (c.to_hex.ensures ∙ ap hex c.digest.ensures)
+pub returns-in_ok-push-in-Ok-Root : goal.returns-in_ok-push-in-Ok-Root
+returns-in_ok-push-in-Ok-Root g c =
+    let digits = pushed c.to_hex.result refl c.in_ok-extend_from_slice-in-Ok-Root.was c.extend_from_slice.ensures.items in
+    pushed (newline ∷ []) digits c.in_ok-push-in-Ok-Root.was c.push.ensures.items
+    ∙ answer-root _ c.args.number _ _ _ _ c.in-Ok-Root.ensures (c.to_hex.ensures ∙ ap hex c.digest.ensures)
 
-pub returns-in_ok-extend_from_slice-in-None : goal.returns-in_ok-extend_from_slice-in-None
-returns-in_ok-extend_from_slice-in-None g c =
-    pushed c.as_bytes.result.now refl c.in_ok-extend_from_slice-in-None.was c.extend_from_slice-in-None.ensures.items
-    ∙ answer_bad _ c.args.number _ _ _ c.in-None.ensures (c.as_bytes.ensures.value ∙ c.in_ok-refusal-in-None.ensures.ok)
+pub returns-in_ok-extend_from_slice-in-Err : goal.returns-in_ok-extend_from_slice-in-Err
+returns-in_ok-extend_from_slice-in-Err g c =
+    pushed c.as_bytes.result.now refl c.in_ok-extend_from_slice-in-Err.was c.extend_from_slice-in-Err.ensures.items
+    ∙ answer_bad _ c.args.number _ _ _ c.in-Err.ensures (c.as_bytes.ensures.value ∙ c.in_ok-refusal-in-Err.ensures.ok)

@@ -2,7 +2,7 @@
 use Rattle.std.proofs.Common.{refl}
 use Rattle.sha256.specs.Constants.{constants}
 use Rattle.sha256.proofs.Roots.{constants_rule}
-use Rattle.sha256.proofs.tables.constant.Goals as goal
+use Rattle.sha256.proofs.tables.round_constants.Goals as goal
 
 pub returns : goal.returns
 unfolding constants
