@@ -5,7 +5,6 @@ use Rattle.store.proofs.Outcomes.{outcome_added}
 use Rattle.slots.specs.Memory.{slots_in, slots_meaning}
 use Rattle.slots.proofs.Adds.{pair_added, some_unused}
 use Rattle.slots.proofs.Cuts.{slot_count}
-use Rattle.slots.proofs.memory.add_pair.Given as given
 use Rattle.slots.proofs.memory.add_pair.Goals as goal
 use Rattle.slots.proofs.memory.add_pair.Goals.{In-Some}
 
