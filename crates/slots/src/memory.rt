@@ -1,5 +1,5 @@
 // Memory that is cut into slots. What is left behind the last whole slot stays as it is.
-ghost use Rattle.std.specs.Prelude.{◌≡◌, ◌/◌, ◌<◌, ◌≤◌, false, [], length, IfSome, Some, None, MatchOption, slice_index_or, slice_set};
+ghost use Rattle.std.specs.Prelude.{◌≡◌, ◌/◌, ◌<◌, false, [], length, Some, None, MatchOption, slice_index_or, slice_set};
 ghost use Rattle.store.specs.Answer.{told};
 ghost use Rattle.store.specs.Calls.{put_answer, put_after};
 ghost use Rattle.slots.specs.Memory.{slots_in, left_over, held_in, unused, slots_meaning, without_pairs};

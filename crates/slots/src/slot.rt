@@ -1,5 +1,5 @@
 // One slot: a name of 32 bytes, a length of 4, and room for a block.
-ghost use Rattle.std.specs.Prelude.{◌≡◌, ◌≤◌, true, length};
+ghost use Rattle.std.specs.Prelude.{◌≡◌, true, length};
 ghost use Rattle.slots.specs.Memory.{holds};
 ghost use Rattle.slots.specs.Slot.{slot_length, slot_block, is_used, filled, emptied};
 
