@@ -1,11 +1,13 @@
 -- Whether memory has room for a slot.
 --
 --   memory_number    the number of each fault
+--   memory_text      how a fault is printed
 --   memory_told      the result of the test as an answer
 --   memory_answer    what the test answers
 --
 -- Assumes nothing.
-use Rattle.std.specs.Prelude.{ℕ, cond, Ok, Err, Result, nat_lt}
+use Rattle.std.specs.Prelude.{ℕ, cond, List, ◌++◌, Ok, Err, Result, codes, nat_lt}
+use Rattle.std.specs.Fmt.{decimal}
 use Rattle.store.specs.Answer.{Answer, done, refused}
 use Rattle.slots.specs.Slot.{slot_size}
 use Rattle.slots.specs.declared.fault.MemoryFault.{MemoryFault}
@@ -14,6 +16,10 @@ use Rattle.slots.specs.declared.fault.MemoryFault.TheVariants.{NoSlot}
 -- there is one fault
 abbrev pub memory_number : MemoryFault → ℕ
 memory_number NoSlot = 14
+
+-- with its number in decimal digits
+abbrev pub memory_text : MemoryFault → List ℕ
+memory_text fault = codes "refused " ++ decimal (memory_number fault)
 
 -- the fault by its number
 abbrev pub memory_told : Result (Unit {0}) MemoryFault → Answer (Unit {0})

@@ -14,12 +14,7 @@ pub(crate) fn lookup<'a>(memory: &'a [u8], name: &Digest) -> Option<Block<'a>>
     ensures { MatchOption result (held_in (slots_in memory.now) name.now.bytes ≡ None) (λ block. held_in (slots_in memory.now) name.now.bytes ≡ Some block.bytes.now) }
 {
     let (slots, _) = memory.as_chunks::<SLOT_SIZE>();
-    for slot in slots {
-        if has_name(slot, name) {
-            return Some(block_in(slot));
-        }
-    }
-    None
+    block_in(slots.iter().find(|slot| has_name(slot, name))?)
 }
 
 // How many slots are unused.
@@ -27,13 +22,7 @@ pub(crate) fn count_unused(memory: &[u8]) -> usize
     ensures { result ≡ unused (slots_in memory.now) }
 {
     let (slots, _) = memory.as_chunks::<SLOT_SIZE>();
-    let mut count = 0;
-    for slot in slots {
-        if !in_use(slot) {
-            count += 1;
-        }
-    }
-    count
+    slots.iter().filter(|slot| !in_use(slot)).count()
 }
 
 // The place of an unused slot. It is the first, but nothing above rests on that.
@@ -41,12 +30,7 @@ fn find_unused(memory: &[u8]) -> Option<usize>
     ensures { MatchOption result (unused (slots_in memory.now) ≡ 0) (λ i. (i < length memory.now / 10788) × (is_used (slice_index_or (slots_in memory.now) i []) ≡ false)) }
 {
     let (slots, _) = memory.as_chunks::<SLOT_SIZE>();
-    for (i, slot) in slots.iter().enumerate() {
-        if !in_use(slot) {
-            return Some(i);
-        }
-    }
-    None
+    slots.iter().position(|slot| !in_use(slot))
 }
 
 // Writes a pair into the slot at a place.
@@ -54,7 +38,6 @@ fn fill_place(memory: &mut [u8], place: usize, name: &Digest, block: Block)
     requires { place < length memory.old / 10788 }
     ensures after { slots_in memory.new ≡ slice_set (slots_in memory.old) place (filled name.now.bytes block.entry.bytes.now (slice_index_or (slots_in memory.old) place [])) }
     ensures rest { left_over memory.new ≡ left_over memory.old }
-    ensures name_size { length name.now.bytes ≡ 32 }
 {
     let at = place * SLOT_SIZE;
     fill(&mut memory[at..at + SLOT_SIZE], name, block);
@@ -67,14 +50,12 @@ pub(crate) fn add_pair(memory: &mut [u8], name: &Digest, block: Block) -> Result
     ensures after { slots_meaning memory.new ≡ put_after (slots_meaning memory.old) name.now.bytes block.entry.bytes.now }
     ensures rest { left_over memory.new ≡ left_over memory.old }
 {
-    let Some(place) = find_unused(memory) else {
-        return Err(Fault::NoRoom);
-    };
+    let place = find_unused(memory).ok_or(Fault::NoRoom)?;
     fill_place(memory, place, name, block);
     Ok(())
 }
 
-// Marks every slot as unused.
+// Marks every slot as unused. By place: of slots that `as_chunks_mut` or `chunks_exact_mut` lends to be changed nothing is known afterwards.
 pub(crate) fn empty_all(memory: &mut [u8])
     ensures after { slots_meaning memory.new ≡ without_pairs (length memory.old / 10788) }
     ensures rest { left_over memory.new ≡ left_over memory.old }

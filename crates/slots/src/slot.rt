@@ -1,5 +1,5 @@
 // One slot: a name of 32 bytes, a length of 4, and room for a block.
-ghost use Rattle.std.specs.Prelude.{◌≡◌, true, length};
+ghost use Rattle.std.specs.Prelude.{◌≡◌, true, false, length, MatchOption};
 ghost use Rattle.slots.specs.Memory.{holds};
 ghost use Rattle.slots.specs.Slot.{slot_length, slot_block, is_used, filled, emptied};
 
@@ -39,25 +39,21 @@ pub(crate) fn in_use(slot: &[u8; SLOT_SIZE]) -> bool
 pub(crate) fn has_name(slot: &[u8; SLOT_SIZE], name: &Digest) -> bool
     ensures { result ≡ holds slot.now name.now.bytes }
 {
-    in_use(slot) && slot[0..LENGTH_AT] == name.bytes[0..LENGTH_AT]
+    in_use(slot) && slot[..LENGTH_AT] == name.bytes[..]
 }
 
-// The block of a used slot.
-pub(crate) fn block_in(slot: &[u8; SLOT_SIZE]) -> Block<'_>
-    requires { is_used slot.now ≡ true }
-    ensures { result.bytes.now ≡ slot_block slot.now }
+// The block of a used slot. What stands behind its length is room for the longest.
+pub(crate) fn block_in(slot: &[u8; SLOT_SIZE]) -> Option<Block<'_>>
+    ensures { MatchOption result (is_used slot.now ≡ false) (λ block. (is_used slot.now ≡ true) × (block.bytes.now ≡ slot_block slot.now)) }
 {
-    let end = BLOCK_AT + length_in(slot);
-    Block {
-        bytes: &slot[BLOCK_AT..end],
-    }
+    let bytes = slot[BLOCK_AT..].get(..length_in(slot))?;
+    Some(Block { bytes })
 }
 
-// Writes a name and a block into a slot. That a digest has 32 bytes is said for callers that do not look into it.
+// Writes a name and a block into a slot.
 pub(crate) fn fill(slot: &mut [u8], name: &Digest, block: Block)
     requires { length slot.old ≡ 10788 }
-    ensures after { slot.new ≡ filled name.now.bytes block.entry.bytes.now slot.old }
-    ensures name_size { length name.now.bytes ≡ 32 }
+    ensures { slot.new ≡ filled name.now.bytes block.entry.bytes.now slot.old }
 {
     let block = block.bytes;
     let end = BLOCK_AT + block.len();

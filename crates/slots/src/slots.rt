@@ -54,18 +54,15 @@ impl Store for Slots<'_> {
             return Ok(None);
         };
         let len = block.bytes.len();
-        out[0..len].copy_from_slice(block.bytes);
+        out[..len].copy_from_slice(block.bytes);
         Ok(Some(len))
     }
 
     fn compare(&self, name: &Digest, block: &[u8]) -> Compared {
-        let Some(held) = lookup(self.memory, name) else {
-            return Compared::Absent;
-        };
-        if held.bytes == block {
-            Compared::Same
-        } else {
-            Compared::Other
+        match lookup(self.memory, name) {
+            None => Compared::Absent,
+            Some(held) if held.bytes == block => Compared::Same,
+            Some(_) => Compared::Other,
         }
     }
 

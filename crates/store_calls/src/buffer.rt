@@ -9,10 +9,5 @@ pub(crate) const MARK: u8 = 0xEE;
 pub(crate) fn untouched(buffer: &[u8]) -> bool
     ensures { Decides result (AllMarks buffer.now) }
 {
-    for byte in buffer {
-        if *byte != MARK {
-            return false;
-        }
-    }
-    true
+    buffer.iter().all(|byte| *byte == MARK)
 }

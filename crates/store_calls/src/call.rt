@@ -4,7 +4,7 @@ ghost use Rattle.std.specs.Prelude.{◌≡◌, replicate, slice_set};
 use crate::buffer::{MARK, untouched};
 use digest::Digest;
 use std::alloc::{AllocError, Global};
-use store::{Compared, Store};
+use store::Store;
 
 // A name is told by its last byte, and a block by its length and its first byte.
 #[derive(Clone, Copy)]
@@ -41,11 +41,9 @@ pub(crate) fn name_of(byte: u8) -> Digest
 
 // `len` bytes that rise from the first on, and start again.
 fn block_of(heap: Global, len: usize, first: u8) -> Result<Vec<u8>, AllocError> {
-    let mut block = Vec::new(heap);
-    for i in 0..len {
-        block.push(first.wrapping_add((i % 256) as u8))?;
-    }
-    Ok(block)
+    (0..len)
+        .map(|i| first.wrapping_add((i % 256) as u8))
+        .collect(heap)
 }
 
 // Makes the call, and prints its line.
@@ -91,10 +89,7 @@ fn put<S: Store>(rt: &HostRuntime, store: &mut S, name: u8, block: &[u8]) -> any
     let free = store.free();
     match answer {
         Ok(()) => println!(rt; "put {name} of {len}: ok, {free} free")?,
-        Err(fault) => {
-            let number = fault.number();
-            println!(rt; "put {name} of {len}: refused {number}, {free} free")?
-        }
+        Err(fault) => println!(rt; "put {name} of {len}: {fault}, {free} free")?,
     }
     Ok(())
 }
@@ -110,12 +105,12 @@ fn find<S: Store>(
     let out = buffer.as_mut_slice();
     match store.find(&name_of(name), out) {
         Ok(Some(len)) => {
-            let found = if &out[0..len] == block {
+            let found = if &out[..len] == block {
                 "as put"
             } else {
                 "another"
             };
-            let rest = kept_word(&out[len..out.len()]);
+            let rest = kept_word(&out[len..]);
             println!(rt; "find {name}: {len} bytes, {found}, rest {rest}")?
         }
         Ok(None) => {
@@ -123,9 +118,8 @@ fn find<S: Store>(
             println!(rt; "find {name}: absent, buffer {rest}")?
         }
         Err(fault) => {
-            let number = fault.number();
             let rest = kept_word(out);
-            println!(rt; "find {name} into {room}: refused {number}, buffer {rest}")?
+            println!(rt; "find {name} into {room}: {fault}, buffer {rest}")?
         }
     }
     Ok(())
@@ -138,11 +132,7 @@ fn kept_word(bytes: &[u8]) -> &'static str {
 
 fn compare<S: Store>(rt: &HostRuntime, store: &S, name: u8, block: &[u8]) -> anyhow::Result<()> {
     let len = block.len();
-    let word = match store.compare(&name_of(name), block) {
-        Compared::Absent => "absent",
-        Compared::Same => "same",
-        Compared::Other => "other",
-    };
-    println!(rt; "compare {name} with {len}: {word}")?;
+    let compared = store.compare(&name_of(name), block);
+    println!(rt; "compare {name} with {len}: {compared}")?;
     Ok(())
 }

@@ -20,10 +20,7 @@ pub(crate) fn copy_lines<S: Store, T: Store>(
             Ok(there) => println!(rt;
                 "copy {name}: there {there}, buffer kept {kept}, {free} free"
             )?,
-            Err(fault) => {
-                let number = fault.number();
-                println!(rt; "copy {name}: refused {number}, buffer kept {kept}, {free} free")?
-            }
+            Err(fault) => println!(rt; "copy {name}: {fault}, buffer kept {kept}, {free} free")?,
         }
     }
     Ok(())

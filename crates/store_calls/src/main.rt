@@ -62,10 +62,7 @@ fn sizes(rt: &HostRuntime) -> anyhow::Result<()> {
         let mut memory = vec![in rt.alloc(); 0u8; size]?;
         match Slots::test_memory(memory.as_slice()) {
             Ok(()) => println!(rt; "memory of {size}: ok")?,
-            Err(fault) => {
-                let number = fault.number();
-                println!(rt; "memory of {size}: refused {number}")?
-            }
+            Err(fault) => println!(rt; "memory of {size}: {fault}")?,
         }
         let mut slots = Slots::new(memory.as_mut_slice());
         lines(rt, "its slots", &mut slots, &tables::ANY_SIZE)?;

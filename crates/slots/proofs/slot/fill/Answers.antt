@@ -1,10 +1,10 @@
 -- The name, the length and the block stand one behind the other.
-use Rattle.std.proofs.Common.{◌∙◌, rules}
+use Rattle.std.proofs.Common.{◌∙◌}
 use Rattle.slots.proofs.Parts.{written}
 use Rattle.slots.proofs.slot.fill.Goals as goal
 
-pub returns-clause-after : goal.returns-clause-after
-returns-clause-after c =
+pub returns : goal.returns
+returns c =
     written
     c.args.name.now.bytes
     c.args.block.bytes.now
@@ -12,7 +12,7 @@ returns-clause-after c =
     c.copy_from_slice.new.self
     c.copy_from_slice-2.new.self
     c.copy_from_slice-3.new.self
-    (search rules)
+    c.args.name.now.size
     c.copy_from_slice.ensures.after
     (c.copy_from_slice-2.ensures.after ∙ c.to_be_bytes.ensures)
     c.copy_from_slice-3.ensures.after
