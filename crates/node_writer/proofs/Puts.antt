@@ -1,13 +1,12 @@
 -- What stands in a buffer after bytes are written into it. Assumes nothing.
-use Rattle.std.proofs.Common.{◌≡◌, ℕ, ◌+◌, ◌-◌, ◌<◌, ◌≤◌, List, [], ◌∷◌, ◌++◌, length, take, drop, set, sym, refl, ap, ◌∙◌, subst, add-one, arith}
+use Rattle.std.proofs.Common.{◌≡◌, ℕ, ◌+◌, ◌-◌, ◌≤◌, List, ◌++◌, length, take, drop, sym, refl, ap, ◌∙◌, subst, arith}
 use lib.Seq.{paste}
 use borrow.Rule.Slice.PartMut.{put_mid}
 use Rattle.std.proofs.lemmas.List.Edits.{length-paste, paste_all, paste-paste}
-use Rattle.std.proofs.lemmas.List.{append_assoc, drop_at, drop-drop, length-append, length-take-le, set_split, take_at, take-take}
+use Rattle.std.proofs.lemmas.List.{append_assoc, drop_at, drop-drop, length-append, length-take-le, take_at, take-take}
 use Rattle.std.proofs.lemmas.Slice.{put_mid-paste}
-use Rattle.std.proofs.lemmas.Bool.{le-ltb, lt-ltb}
-use Rattle.node.specs.Format.{head}
-use Rattle.node_writer.specs.Put.{put, Puts, Kept}
+use Rattle.node_writer.specs.Put.{put, Puts, Writes, Kept}
+use Rattle.node_writer.specs.declared.output.Output.{Output}
 
 put_paste : (s : List ℕ) (at : ℕ) (p : List ℕ) → put s at p ≡ paste s at p (length p)
 unfolding put
@@ -29,14 +28,6 @@ put-put s at p q room =
     let long = length-append p q in
     cc
 
-set-put : (s : List ℕ) (at v : ℕ) → at < length s → set s at v ≡ put s at (v ∷ [])
-unfolding put
-set-put s at v within = set_split s at v within ∙ ap (λ z. take at s ++ v ∷ drop z s) (sym (add-one at))
-
--- a byte
-pub puts_one : (s : List ℕ) (at v : ℕ) → at + 1 ≤ length s → Puts s (set s at v) at (v ∷ []) (at + 1)
-puts_one s at v within = record { ends = refl; within = within; is = set-put s at v (omega arith) }
-
 -- one write after another
 pub then : {s t u p q : List ℕ} {at m end : ℕ} → Puts s t at p m → Puts t u m q end → Puts s u at (p ++ q) end
 then {s} {t} {u} {p} {q} {at} {m} {end} a b =
@@ -53,21 +44,20 @@ then {s} {t} {u} {p} {q} {at} {m} {end} a b =
 pub puts_as : {s t p q : List ℕ} {at end : ℕ} → p ≡ q → Puts s t at q end → Puts s t at p end
 puts_as {s} {t} {p} {q} {at} {end} same w = subst (λ z. Puts s t at z end) (sym same) w
 
--- two bytes
-pub puts_two : (s : List ℕ) (at v w : ℕ) → at + 2 ≤ length s → Puts s (set (set s at v) (at + 1) w) at (v ∷ (w ∷ [])) (at + 2)
-puts_two s at v w within =
-    let one = puts_one s at v (omega arith) in
-    let size : length (set s at v) ≡ length s = ap length one.is ∙ put-length s at (v ∷ []) (omega arith) in
-    let end : at + 1 + 1 ≡ at + 2 = omega arith in
-    subst (λ e. Puts s (set (set s at v) (at + 1) w) at (v ∷ (w ∷ [])) e) end (then one (puts_one (set s at v) (at + 1) w (omega arith)))
+pub puts_into : {s t u p : List ℕ} {at end : ℕ} → u ≡ t → Puts s t at p end → Puts s u at p end
+puts_into {s} {t} {u} {p} {at} {end} same w = subst (λ z. Puts s z at p end) (sym same) w
 
--- a number in the first byte of its head
-pub puts_small : (s : List ℕ) (at kind n : ℕ) → at + 2 ≤ length s → n < 24 → Puts s (set s at (kind + n)) at (head kind n) (at + 1)
-puts_small s at kind n within small = rw (lt-ltb n 24 small) (puts_one s at (kind + n) (omega arith))
+-- of an output
+pub writes : (before after : Output) (p : List ℕ) → after.buffer.ghost_name ≡ before.buffer.ghost_name
+    → Puts before.buffer.now after.buffer.now before.at p after.at → Writes before after p
+writes before after p same w =
+    record { puts = w; same = same; size = ap length w.is ∙ put-length before.buffer.now before.at p (omega (arith, w.ends, w.within)) }
 
--- and in the next
-pub puts_large : (s : List ℕ) (at kind n : ℕ) → at + 2 ≤ length s → 24 ≤ n → Puts s (set (set s at (kind + 24)) (at + 1) n) at (head kind n) (at + 2)
-puts_large s at kind n within large = rw (le-ltb n 24 large) (puts_two s at (kind + 24) n within)
+pub then_writes : {a b c : Output} {p q : List ℕ} → Writes a b p → Writes b c q → Writes a c (p ++ q)
+then_writes v w = record { puts = then v.puts w.puts; same = w.same ∙ v.same; size = w.size ∙ v.size }
+
+pub writes_as : {a b : Output} {p q : List ℕ} → p ≡ q → Writes a b q → Writes a b p
+writes_as same w = record { puts = puts_as same w.puts; same = w.same; size = w.size }
 
 -- up to the end of what was written
 pub take_puts : {s t p : List ℕ} {at end : ℕ} → Puts s t at p end → take end t ≡ take at s ++ p

@@ -1,9 +1,10 @@
 -- What a writer has written after each of its calls. Assumes nothing.
-use Rattle.std.proofs.Common.{◌≡◌, ℕ, ◌+◌, ◌-◌, List, [], ◌∷◌, ◌++◌, length, take, drop, Option, sym, refl, ap, ◌∙◌, arith}
+use Rattle.std.proofs.Common.{◌≡◌, ℕ, ◌+◌, ◌-◌, List, [], ◌∷◌, ◌++◌, length, take, drop, Option, sym, refl, ap, ◌∙◌, subst, arith}
 use Rattle.std.proofs.lemmas.List.{append_assoc, append-nil, length-append, take_rest}
 use Rattle.keys.specs.Shared.{shared}
 use Rattle.node.specs.Values.{key_before}
 use Rattle.node.specs.Format.{Entry, closing, encode, entries, entry, entry_parts, opening}
+use Rattle.node_writer.specs.Answer.{Begun}
 use Rattle.node_writer.specs.Put.{Puts}
 use Rattle.node_writer.specs.Written.{last_key, Written}
 use Rattle.node_writer.specs.declared.writer.NodeWriter.{NodeWriter}
@@ -26,6 +27,9 @@ last_key_push before (x ∷ es) e = last_key_push x.key es e
 pub written_none : (c count : ℕ) (w : NodeWriter) (s t : List ℕ) → Puts s t 0 (opening count) w.at → w.left ≡ count → key_before w.last ≡ [] → Written c count [] w t
 written_none c count w s t puts left none =
     record { bytes = take_puts puts ∙ sym (append-nil (opening count)); rest = omega arith; follows = none }
+
+pub begun_into : {s t u : List ℕ} {count : ℕ} {w : NodeWriter} → u ≡ t → Begun s t count w → Begun s u count w
+begun_into {s} {t} {u} {count} {w} same begun = subst (λ z. Begun s z count w) (sym same) begun
 
 pub written_push : (c : ℕ) (e : Entry) (v w : NodeWriter) (s t : List ℕ)
     → Puts s t v.at (entry c (key_before v.last) e) w.at → w.left + 1 ≡ v.left → key_before w.last ≡ e.key

@@ -5,7 +5,7 @@
 #![tactic(auto)]
 
 mod entry;
-mod parts;
+mod output;
 mod whole;
 mod writer;
 

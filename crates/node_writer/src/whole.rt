@@ -16,9 +16,7 @@ pub fn write_node<K: DigestKind>(
 ) -> Option<usize>
     ensures { MatchOption result (Refused out.old out.new (length entries.now)) (λ end. Ended out.old out.new K.DigestKind.kind.code (record { first = link_of first; entries = map entry_of entries.now }) end) }
 {
-    let Some(mut writer) = NodeWriter::begin(out, entries.len()) else {
-        return None;
-    };
+    let mut writer = NodeWriter::begin(out, entries.len())?;
     for entry in entries {
         writer.push::<K>(out, entry);
     }

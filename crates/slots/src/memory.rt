@@ -1,5 +1,5 @@
 // Memory that is cut into slots. What is left behind the last whole slot stays as it is.
-ghost use Rattle.std.specs.Prelude.{◌≡◌, ◌/◌, ◌<◌, ◌≤◌, false, [], length, IfSome, Some, None, MatchOption, slice_index_or, slice_set};
+ghost use Rattle.std.specs.Prelude.{◌≡◌, ◌/◌, ◌<◌, false, [], length, Some, None, MatchOption, slice_index_or, slice_set};
 ghost use Rattle.store.specs.Answer.{told};
 ghost use Rattle.store.specs.Calls.{put_answer, put_after};
 ghost use Rattle.slots.specs.Memory.{slots_in, left_over, held_in, unused, slots_meaning, without_pairs};
@@ -7,12 +7,11 @@ ghost use Rattle.slots.specs.Slot.{is_used, filled};
 
 use crate::slot::{SLOT_SIZE, block_in, empty, fill, has_name, in_use};
 use digest::Digest;
-use store::Fault;
+use store::{Block, Fault};
 
 // The block under a name, where it stands.
-pub(crate) fn lookup<'a>(memory: &'a [u8], name: &Digest) -> Option<&'a [u8]>
-    ensures held { MatchOption result (held_in (slots_in memory.now) name.now.bytes ≡ None) (λ block. held_in (slots_in memory.now) name.now.bytes ≡ Some block.now) }
-    ensures bound { IfSome result (λ block. length block.now ≤ 10752) }
+pub(crate) fn lookup<'a>(memory: &'a [u8], name: &Digest) -> Option<Block<'a>>
+    ensures { MatchOption result (held_in (slots_in memory.now) name.now.bytes ≡ None) (λ block. held_in (slots_in memory.now) name.now.bytes ≡ Some block.bytes.now) }
 {
     let (slots, _) = memory.as_chunks::<SLOT_SIZE>();
     for slot in slots {
@@ -51,10 +50,9 @@ fn find_unused(memory: &[u8]) -> Option<usize>
 }
 
 // Writes a pair into the slot at a place.
-fn fill_place(memory: &mut [u8], place: usize, name: &Digest, block: &[u8])
-    requires within { place < length memory.old / 10788 }
-    requires short { length block.now ≤ 10752 }
-    ensures after { slots_in memory.new ≡ slice_set (slots_in memory.old) place (filled name.now.bytes block.now (slice_index_or (slots_in memory.old) place [])) }
+fn fill_place(memory: &mut [u8], place: usize, name: &Digest, block: Block)
+    requires { place < length memory.old / 10788 }
+    ensures after { slots_in memory.new ≡ slice_set (slots_in memory.old) place (filled name.now.bytes block.entry.bytes.now (slice_index_or (slots_in memory.old) place [])) }
     ensures rest { left_over memory.new ≡ left_over memory.old }
     ensures name_size { length name.now.bytes ≡ 32 }
 {
@@ -63,11 +61,10 @@ fn fill_place(memory: &mut [u8], place: usize, name: &Digest, block: &[u8])
 }
 
 // Puts a block under a name that no slot holds.
-pub(crate) fn add_pair(memory: &mut [u8], name: &Digest, block: &[u8]) -> Result<(), Fault>
-    requires short { length block.now ≤ 10752 }
-    requires absent { held_in (slots_in memory.old) name.now.bytes ≡ None }
-    ensures answer { told result ≡ put_answer (slots_meaning memory.old) name.now.bytes block.now }
-    ensures after { slots_meaning memory.new ≡ put_after (slots_meaning memory.old) name.now.bytes block.now }
+pub(crate) fn add_pair(memory: &mut [u8], name: &Digest, block: Block) -> Result<(), Fault>
+    requires { held_in (slots_in memory.old) name.now.bytes ≡ None }
+    ensures answer { told result ≡ put_answer (slots_meaning memory.old) name.now.bytes block.entry.bytes.now }
+    ensures after { slots_meaning memory.new ≡ put_after (slots_meaning memory.old) name.now.bytes block.entry.bytes.now }
     ensures rest { left_over memory.new ≡ left_over memory.old }
 {
     let Some(place) = find_unused(memory) else {

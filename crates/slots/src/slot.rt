@@ -1,10 +1,10 @@
 // One slot: a name of 32 bytes, a length of 4, and room for a block.
-ghost use Rattle.std.specs.Prelude.{◌≡◌, ◌≤◌, true, length};
+ghost use Rattle.std.specs.Prelude.{◌≡◌, true, length};
 ghost use Rattle.slots.specs.Memory.{holds};
 ghost use Rattle.slots.specs.Slot.{slot_length, slot_block, is_used, filled, emptied};
 
 use digest::Digest;
-use store::BLOCK_LIMIT;
+use store::{BLOCK_LIMIT, Block};
 
 pub(crate) const SLOT_SIZE: usize = 10788;
 
@@ -43,22 +43,23 @@ pub(crate) fn has_name(slot: &[u8; SLOT_SIZE], name: &Digest) -> bool
 }
 
 // The block of a used slot.
-pub(crate) fn block_in(slot: &[u8; SLOT_SIZE]) -> &[u8]
+pub(crate) fn block_in(slot: &[u8; SLOT_SIZE]) -> Block<'_>
     requires { is_used slot.now ≡ true }
-    ensures value { result.now ≡ slot_block slot.now }
-    ensures bound { length result.now ≤ 10752 }
+    ensures { result.bytes.now ≡ slot_block slot.now }
 {
     let end = BLOCK_AT + length_in(slot);
-    &slot[BLOCK_AT..end]
+    Block {
+        bytes: &slot[BLOCK_AT..end],
+    }
 }
 
 // Writes a name and a block into a slot. That a digest has 32 bytes is said for callers that do not look into it.
-pub(crate) fn fill(slot: &mut [u8], name: &Digest, block: &[u8])
-    requires size { length slot.old ≡ 10788 }
-    requires short { length block.now ≤ 10752 }
-    ensures after { slot.new ≡ filled name.now.bytes block.now slot.old }
+pub(crate) fn fill(slot: &mut [u8], name: &Digest, block: Block)
+    requires { length slot.old ≡ 10788 }
+    ensures after { slot.new ≡ filled name.now.bytes block.entry.bytes.now slot.old }
     ensures name_size { length name.now.bytes ≡ 32 }
 {
+    let block = block.bytes;
     let end = BLOCK_AT + block.len();
     slot[0..LENGTH_AT].copy_from_slice(&name.bytes);
     slot[LENGTH_AT..BLOCK_AT].copy_from_slice(&(block.len() as u32).to_be_bytes());

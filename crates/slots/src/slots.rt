@@ -11,7 +11,7 @@ use crate::fault::MemoryFault;
 use crate::memory::{add_pair, count_unused, empty_all, lookup};
 use crate::slot::SLOT_SIZE;
 use digest::Digest;
-use store::{BLOCK_LIMIT, Compared, Fault, Store};
+use store::{BLOCK_LIMIT, Compared, Fault, Store, admit};
 
 // Memory that is cut into slots, one for each whole 10,788 bytes.
 #[derive(Drop)]
@@ -53,8 +53,8 @@ impl Store for Slots<'_> {
         let Some(block) = lookup(self.memory, name) else {
             return Ok(None);
         };
-        let len = block.len();
-        out[0..len].copy_from_slice(block);
+        let len = block.bytes.len();
+        out[0..len].copy_from_slice(block.bytes);
         Ok(Some(len))
     }
 
@@ -62,7 +62,7 @@ impl Store for Slots<'_> {
         let Some(held) = lookup(self.memory, name) else {
             return Compared::Absent;
         };
-        if held == block {
+        if held.bytes == block {
             Compared::Same
         } else {
             Compared::Other
@@ -74,13 +74,9 @@ impl Store for Slots<'_> {
         ensures after { slots_meaning self.new.memory.now ≡ put_after (slots_meaning self.old.memory.now) name.now.bytes block.now }
         ensures rest { left_over self.new.memory.now ≡ left_over self.old.memory.now }
     {
-        if block.len() > BLOCK_LIMIT {
-            return Err(Fault::BlockTooLong);
-        }
-        match self.compare(name, block) {
-            Compared::Same => Ok(()),
-            Compared::Other => Err(Fault::Conflict),
-            Compared::Absent => add_pair(self.memory, name, block),
+        match admit(block, self.compare(name, block))? {
+            Some(block) => add_pair(self.memory, name, block),
+            None => Ok(()),
         }
     }
 

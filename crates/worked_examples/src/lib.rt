@@ -32,11 +32,8 @@ pub fn write_lesson(out: &mut [u8]) -> Option<usize>
     ensures bytes { MatchOption result (length out.old < 10752) (λ end. (end ≡ 61) × (take end out.new ≡ lesson_bytes)) }
     ensures definitions { WorkedNodes }
 {
-    let Some(key) = Key::new(&[0x61]) else {
-        return None;
-    };
     let entry = Entry {
-        key,
+        key: Key::new(&[0x61])?,
         value: Fold::digest(&[0x62]),
         after: None,
     };

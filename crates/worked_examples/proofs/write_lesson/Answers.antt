@@ -11,7 +11,7 @@ unfolding fold_hash encode decode
 returns c = record {
   bytes =
       lesson_written _ _ _ _
-      (λ i. record { first = None; entries = record { key = c.in-Some.ensures.1 i; value = c.digest.ensures i; after = None } ∷ [] }) c.write_node.ensures;
+      (λ i. record { first = None; entries = record { key = c.in_ok-new.ensures.1 i; value = c.digest.ensures i; after = None } ∷ [] }) c.write_node.ensures;
   definitions = record {
     empty_node = λ code. refl;
     one_lesson = refl;

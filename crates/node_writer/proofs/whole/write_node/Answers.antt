@@ -7,17 +7,13 @@ use Rattle.node_writer.proofs.Turns.{turns_left, turns_more, turns_all}
 use Rattle.node_writer.proofs.whole.write_node.Goals as goal
 
 pub loop-entry-init : goal.loop-entry-init
-loop-entry-init g c = (c.in-Some.ensures.written g.K.DigestKind.kind.code, kept_none c.begin.new.out c.in-Some.writer.at)
+loop-entry-init g c = (c.in_ok-writer.ensures.written g.K.DigestKind.kind.code, kept_none c.begin.new.out c.in_ok-writer.writer.at)
 
-pub push-requires : goal.push-requires
-push-requires g c =
+pub push-requires-clause-more : goal.push-requires-clause-more
+push-requires-clause-more g c =
     let turn = c.loop-entry in
-    let begun = c.in-Some.ensures in
     let left = turns_left g.K.DigestKind.kind.code c.args.entries.now turn.entry-index turn.writer turn.out (omega (arith, c.loop-entry-test.true)) turn.invariant.0 in
-    record {
-      room = omega (arith, begun.roomy.room, begun.kept.size, turn.invariant.1.size);
-      more = omega (arith, left, c.loop-entry-test.true);
-    }
+    omega (arith, left, c.loop-entry-test.true)
 
 pub loop-entry-preserved : goal.loop-entry-preserved
 loop-entry-preserved g c =
@@ -28,20 +24,16 @@ loop-entry-preserved g c =
       kept_then turn.invariant.1 c.push.ensures.kept,
     )
 
-pub finish-requires : goal.finish-requires
-finish-requires g c =
+pub finish-requires-clause-none : goal.finish-requires-clause-none
+finish-requires-clause-none g c =
     let turn = c.loop-entry in
-    let begun = c.in-Some.ensures in
     let left = turns_left g.K.DigestKind.kind.code c.args.entries.now turn.entry-index turn.writer turn.out turn.auto.entry-index-end turn.invariant.0 in
-    record {
-      room = omega (arith, begun.roomy.room, begun.kept.size, turn.invariant.1.size);
-      none = omega (arith, left, c.loop-entry-test.false);
-    }
+    omega (arith, left, c.loop-entry-test.false)
 
 pub returns : goal.returns
 returns g c =
     let turn = c.loop-entry in
-    let begun = c.in-Some.ensures in
+    let begun = c.in_ok-writer.ensures in
     let xs = c.args.entries.now in
     let all = turns_all g.K.DigestKind.kind.code xs turn.entry-index turn.writer turn.out c.loop-entry-test.false turn.invariant.0 in
     record {

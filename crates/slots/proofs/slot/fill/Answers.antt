@@ -1,23 +1,18 @@
 -- The name, the length and the block stand one behind the other.
-use Rattle.std.proofs.Common.{◌≡◌, length, ◌∙◌, rules}
+use Rattle.std.proofs.Common.{◌∙◌, rules}
 use Rattle.slots.proofs.Parts.{written}
 use Rattle.slots.proofs.slot.fill.Goals as goal
 
-pub returns : goal.returns
-returns c =
-    let long : length c.args.name.now.bytes ≡ 32 = search rules in
-    record {
-      after =
-          written
-          c.args.name.now.bytes
-          c.args.block.now
-          c.args.slot.now
-          c.copy_from_slice.new.self
-          c.copy_from_slice-2.new.self
-          c.copy_from_slice-3.new.self
-          long
-          c.copy_from_slice.ensures.after
-          (c.copy_from_slice-2.ensures.after ∙ c.to_be_bytes.ensures)
-          c.copy_from_slice-3.ensures.after;
-      name_size = long;
-    }
+pub returns-clause-after : goal.returns-clause-after
+returns-clause-after c =
+    written
+    c.args.name.now.bytes
+    c.args.block.bytes.now
+    c.args.slot.now
+    c.copy_from_slice.new.self
+    c.copy_from_slice-2.new.self
+    c.copy_from_slice-3.new.self
+    (search rules)
+    c.copy_from_slice.ensures.after
+    (c.copy_from_slice-2.ensures.after ∙ c.to_be_bytes.ensures)
+    c.copy_from_slice-3.ensures.after

@@ -1,0 +1,82 @@
+// The parts that entries and nodes are made of, written one after the other.
+ghost use Rattle.std.specs.Prelude.{◌+◌, ◌≤◌, length};
+ghost use Rattle.node.specs.Format.{head, byte_string, link, link_or_null};
+ghost use Rattle.node.specs.Major.{major_base};
+ghost use Rattle.node.specs.Values.{link_of};
+ghost use Rattle.node_writer.specs.Put.{Writes};
+
+use digest::Digest;
+use node::MajorType;
+
+// Numbers below this stand in the first byte of a head.
+const FIRST_LARGE: u8 = 24;
+
+// In the first byte of a head: the number stands in the next.
+const IN_NEXT: u8 = 24;
+
+const NULL: u8 = 0xF6;
+
+// A buffer of the caller, and the place where the next byte goes.
+#[derive(Drop)]
+pub struct Output<'a> {
+    pub(crate) buffer: &'a mut [u8],
+    pub(crate) at: usize,
+}
+
+impl Output<'_> {
+    // Writes `bytes` as they are.
+    pub(crate) fn bytes(&mut self, bytes: &[u8])
+        requires { self.old.at + length bytes.now ≤ length self.old.buffer.now }
+        ensures { Writes self.old self.new bytes.now }
+    {
+        let end = self.at + bytes.len();
+        self.buffer[self.at..end].copy_from_slice(bytes);
+        self.at = end;
+    }
+
+    // Writes a number behind the type of item that it belongs to.
+    pub(crate) fn head(&mut self, major: MajorType, n: u8)
+        requires { self.old.at + 2 ≤ length self.old.buffer.now }
+        ensures writes { Writes self.old self.new (head (major_base major) n) }
+        ensures bound { self.new.at ≤ self.old.at + 2 }
+    {
+        if n < FIRST_LARGE {
+            self.bytes(&[major.base() + n]);
+        } else {
+            self.bytes(&[major.base() + IN_NEXT, n]);
+        }
+    }
+
+    // Writes a byte string behind its length.
+    pub(crate) fn string(&mut self, string: &[u8])
+        requires room { self.old.at + 2 + length string.now ≤ length self.old.buffer.now }
+        requires short { length string.now ≤ 64 }
+        ensures writes { Writes self.old self.new (byte_string string.now) }
+        ensures bound { self.new.at ≤ self.old.at + 2 + length string.now }
+    {
+        self.head(MajorType::Bytes, string.len() as u8);
+        self.bytes(string);
+    }
+
+    // Writes a link to the block of this digest, under the code of its kind.
+    pub(crate) fn link(&mut self, code: u8, to: &Digest)
+        requires { self.old.at + 41 ≤ length self.old.buffer.now }
+        ensures writes { Writes self.old self.new (link code to.now.bytes) }
+        ensures bound { self.new.at ≤ self.old.at + 41 }
+    {
+        self.bytes(&[0xD8, 0x2A, 0x58, 0x25, 0x00, 0x01, 0x71, code, 0x20]);
+        self.bytes(&to.bytes);
+    }
+
+    // Writes a link, or null where there is none.
+    pub(crate) fn link_or_null(&mut self, code: u8, to: Option<Digest>)
+        requires { self.old.at + 41 ≤ length self.old.buffer.now }
+        ensures writes { Writes self.old self.new (link_or_null code (link_of to)) }
+        ensures bound { self.new.at ≤ self.old.at + 41 }
+    {
+        match to {
+            None => self.bytes(&[NULL]),
+            Some(digest) => self.link(code, &digest),
+        }
+    }
+}
