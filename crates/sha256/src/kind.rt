@@ -1,4 +1,5 @@
 // SHA-256 as a digest kind.
+ghost use Rattle.std.specs.Prelude.{refl};
 ghost use Rattle.sha256.specs.Sha256.{sha256};
 
 use crate::block::compress_all;
@@ -11,11 +12,9 @@ pub struct Sha256;
 impl DigestKind for Sha256 {
     ghost kind = { sha256 };
 
-    const CODE: u8 = 0x12;
+    ghost CODE = { 0x12 };
 
-    fn code_byte() -> u8 {
-        Self::CODE
-    }
+    const CODE: u8 = 0x12;
 
     // Whole blocks are compressed where they lie; only the rest is copied, to be padded.
     fn digest(message: &[u8]) -> Digest {
@@ -27,4 +26,6 @@ impl DigestKind for Sha256 {
             bytes: compress_all(state, last).to_bytes(),
         }
     }
+
+    ghost coded = { refl };
 }

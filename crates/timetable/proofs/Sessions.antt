@@ -4,7 +4,7 @@ use Rattle.std.proofs.lemmas.Bool.{cond-true, cond-false, lt-ltb, le-ltb}
 use Rattle.digest.specs.Hex.{hex}
 use Rattle.digest.specs.Kind.{Kind}
 use Rattle.timetable.specs.Command.{Parses}
-use Rattle.timetable.specs.Lines.{newline, terminated, lines}
+use Rattle.timetable.specs.Lines.{terminated, lines}
 use Rattle.timetable.specs.Session.{limit, empty_node, reply, answer, answers_from, transcript}
 use Rattle.timetable.specs.declared.command.Command.{Command}
 use Rattle.timetable.specs.declared.command.Command.TheVariants.{Root}
@@ -15,15 +15,12 @@ answer_is : (κ : Kind) (number : ℕ) (line : List ℕ) (c : Option Command) �
 unfolding answer
 answer_is κ number line c parses = ap (reply κ number) (command_from_parses line c parses)
 
-pub answer-root : (κ : Kind) (number : ℕ) (line out digits : List ℕ) (c : Command) → Parses line (Some c) → digits ≡ hex (κ.hash empty_node)
-    → (out ++ digits) ++ newline ∷ [] ≡ out ++ answer κ number line
-answer-root κ number line out digits Root parses is =
-    append_assoc out digits (newline ∷ []) ∙ ap (λ xs. out ++ terminated xs) is ∙ ap (λ xs. out ++ xs) (sym (answer_is κ number line (Some Root) parses))
+pub answer-root : (κ : Kind) (number : ℕ) (line digits : List ℕ) (c : Command) → Parses line (Some c) → digits ≡ hex (κ.hash empty_node)
+    → terminated digits ≡ answer κ number line
+answer-root κ number line digits Root parses is = ap terminated is ∙ sym (answer_is κ number line (Some Root) parses)
 
-pub answer_bad : (κ : Kind) (number : ℕ) (line out text : List ℕ) → Parses line None → text ≡ codes "bad " ++ (decimal number ++ newline ∷ [])
-    → out ++ text ≡ out ++ answer κ number line
-answer_bad κ number line out text parses is =
-    ap (λ xs. out ++ xs) (is ∙ sym (append_assoc (codes "bad ") (decimal number) (newline ∷ [])) ∙ sym (answer_is κ number line None parses))
+pub answer_bad : (κ : Kind) (number : ℕ) (line : List ℕ) → Parses line None → terminated (codes "bad " ++ decimal number) ≡ answer κ number line
+answer_bad κ number line parses = sym (answer_is κ number line None parses)
 
 -- what is written, and the answers to the lines that are left, after this many, are the answers to all lines of the input
 pub record Answered (κ : Kind) (input out : List ℕ) (count : ℕ) (left : List (List ℕ)) : Type 0 where

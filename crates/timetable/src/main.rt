@@ -24,7 +24,7 @@ const ENOUGH: u64 = LIMIT as u64 + 1;
 fn main(rt: HostRuntime) -> io::Result<()> {
     let input = read_input(rt.alloc(), rt.stdin())?;
     let out = answers::<Sha256>(rt.alloc(), &input)?;
-    rt.stdout().write_all(&out)
+    rt.stdout().write_all(out.as_bytes())
 }
 
 // All bytes of the input, or enough of them to see that it is too long.

@@ -75,13 +75,10 @@ fn roots(rt: &HostRuntime) -> anyhow::Result<()> {
 
 // One line: which tree, and its root.
 fn root_line(rt: &HostRuntime, tree: &str, root: Option<Digest>) -> anyhow::Result<()> {
-    let Some(root) = root else {
-        println!(rt; "root {tree} none")?;
-        return Ok(());
-    };
-    let hex = root.to_hex();
-    let text = std::str::from_utf8(&hex)?;
-    println!(rt; "root {tree} {text}")?;
+    match root {
+        Some(root) => println!(rt; "root {tree} {root}")?,
+        None => println!(rt; "root {tree} none")?,
+    }
     Ok(())
 }
 
@@ -92,9 +89,8 @@ fn digest_line<K: DigestKind>(
     message_name: &str,
     message: &[u8],
 ) -> anyhow::Result<()> {
-    let hex = K::digest(message).to_hex();
-    let text = std::str::from_utf8(&hex)?;
+    let digest = K::digest(message);
     let len = message.len();
-    println!(rt; "{kind} {message_name:?} {len} {text}")?;
+    println!(rt; "{kind} {message_name:?} {len} {digest}")?;
     Ok(())
 }

@@ -5,7 +5,7 @@ ghost use Rattle.node.specs.Values.{link_of, entry_of};
 ghost use Rattle.node.specs.Format.{encode};
 ghost use Rattle.sha256.specs.Sha256.{sha256_hash};
 
-use digest::{Digest, DigestKind};
+use digest::{BLOCK_LIMIT, Digest, DigestKind};
 use keys::Key;
 use node::Entry;
 use node_writer::write_node;
@@ -29,7 +29,7 @@ fn entry(key: &str, after: Option<Digest>) -> Option<Entry> {
 fn node_digest(first: Option<Digest>, entries: &[Entry]) -> Option<Digest>
     ensures { MatchOption result (64 < length entries.now) (λ d. d.bytes ≡ sha256_hash (encode 0x12 (record { first = link_of first; entries = map entry_of entries.now }))) }
 {
-    let mut block = [0u8; 10752];
+    let mut block = [0u8; BLOCK_LIMIT];
     let len = write_node::<Sha256>(&mut block, first, entries)?;
     Some(Sha256::digest(&block[..len]))
 }

@@ -8,12 +8,12 @@ use Rattle.timetable.proofs.session.answers.Goals as goal
 
 pub returns-then-input-gt-LIMIT : goal.returns-then-input-gt-LIMIT
 returns-then-input-gt-LIMIT g c = record {
-  transcript = IfOk-weaker c.from_slice.result _ _ (λ v made. made ∙ sym (transcript_long g.K.DigestKind.kind _ c.if-input-gt-LIMIT.true)) c.from_slice.ensures.items;
+  transcript = IfOk-weaker c.from_str.result _ _ (λ v made. made ∙ sym (transcript_long g.K.DigestKind.kind _ c.if-input-gt-LIMIT.true)) c.from_str.ensures.ok;
   lines = lines_of _;
 }
 
-pub returns-in_err-push_answer : goal.returns-in_err-push_answer
-returns-in_err-push_answer g c = record {
+pub returns-in_err-write_answer : goal.returns-in_err-write_answer
+returns-in_err-write_answer g c = record {
   transcript = IfOk-from_err c.from_residual.result _ c.from_residual.ensures.0;
   lines = lines_of _;
 }
@@ -24,13 +24,13 @@ loop-i-init g c =
     let start : enumerate_count it ≡ 0 = search rules in
     let left : lines (enumerate_source it).rest.now ≡ lines c.args.input.now = search rules in
     let few = length-lines-le c.args.input.now in
-    ((tt, tt, inl (omega (arith, ap length left))), tt, answered_none _ _ _ _ _ c.new-out.ensures.items start left)
+    ((tt, tt, inl (omega (arith, ap length left))), tt, answered_none _ _ _ _ _ c.new-out.ensures.bytes start left)
 
 pub loop-i-preserved : goal.loop-i-preserved
 loop-i-preserved g c =
     let so_far = c.loop-i.invariant.2 in
     let step = c.in-Some.ensures.steps in
-    let more = answered_more _ _ _ _ _ _ _ _ so_far step.0 (rw step.1 at c.in_ok-push_answer.ensures) in
+    let more = answered_more _ _ _ _ _ _ _ _ so_far step.0 (rw step.1 at c.in_ok-write_answer.ensures) in
     let now = rw (← step.2) at more in
     ((tt, tt, inl (omega (arith, now.few))), tt, now)
 
