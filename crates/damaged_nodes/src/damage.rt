@@ -1,5 +1,5 @@
 // Bytes with a part replaced.
-ghost use Rattle.std.specs.Prelude.{◌≡◌, ◌≤◌, ◌++◌, length, take, drop, IfSome, IfOk};
+ghost use Rattle.std.specs.Prelude.{◌≡◌, ◌≤◌, ◌++◌, length, take, drop, IfSome, IfOk, ◌↔◌, IsTrue};
 ghost use Rattle.damaged_nodes.specs.Parts.{Replaced, Stands};
 
 use std::alloc::{AllocError, Global};
@@ -16,11 +16,9 @@ pub(crate) fn spliced(
     requires within { to ≤ length bytes.now }
     ensures { IfOk result (λ v. v.items ≡ (take from bytes.now ++ new.now) ++ drop to bytes.now) }
 {
-    let (front, _) = bytes.split_at(from);
-    let (_, back) = bytes.split_at(to);
-    let mut block = Vec::from_slice(heap, front)?;
+    let mut block = Vec::from_slice(heap, &bytes[..from])?;
     block.extend_from_slice(new)?;
-    block.extend_from_slice(back)?;
+    block.extend_from_slice(&bytes[to..])?;
     Ok(block)
 }
 
@@ -44,11 +42,15 @@ pub(crate) fn replaced(
 fn place_of(bytes: &[u8], part: &[u8]) -> Option<usize>
     ensures { IfSome result (λ at. Stands bytes.now part.now at) }
 {
-    for at in 0..bytes.len() {
-        let (_, rest) = bytes.split_at(at);
-        if rest.starts_with(part) {
-            return Some(at);
-        }
+    (0..bytes.len()).find(|&at| stands_at(bytes, part, at))
+}
+
+// Whether `part` stands at a place of the bytes.
+fn stands_at(bytes: &[u8], part: &[u8], at: usize) -> bool
+    ensures { IsTrue result ↔ Stands bytes.now part.now at }
+{
+    match bytes.get(at..) {
+        Some(rest) => rest.starts_with(part),
+        None => false,
     }
-    None
 }

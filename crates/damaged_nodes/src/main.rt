@@ -12,7 +12,7 @@ mod families;
 mod nodes;
 mod verdict;
 
-use anyhow::anyhow;
+use anyhow::Context;
 use damage::replaced;
 use digest::{DigestKind, Fold};
 use node_reader::NodeReader;
@@ -43,9 +43,7 @@ fn undamaged(rt: &HostRuntime, whole: &[u8]) -> anyhow::Result<()> {
     block_line(rt, "whole", whole)?;
     let len = whole.len();
     println!(rt; "length: {len}")?;
-    let Some(reader) = NodeReader::read::<Sha256>(whole) else {
-        return Err(anyhow!("the sample is no node"));
-    };
+    let reader = NodeReader::read::<Sha256>(whole).context("the sample is no node")?;
     for key in ["rm/3", "rm/4"] {
         match reader.find(key.as_bytes()) {
             Some(place) => println!(rt; "find {key}: {place}")?,
@@ -123,10 +121,8 @@ fn replaced_line(
     old: &[u8],
     new: &[u8],
 ) -> anyhow::Result<()> {
-    match replaced(rt.alloc(), block, old, new)? {
-        Some(damaged) => block_line(rt, name, damaged.as_slice()),
-        None => Err(anyhow!("nothing to replace")),
-    }
+    let damaged = replaced(rt.alloc(), block, old, new)?.context("nothing to replace")?;
+    block_line(rt, name, damaged.as_slice())
 }
 
 // One line for a block.

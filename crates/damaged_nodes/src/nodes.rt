@@ -3,7 +3,7 @@ ghost use Rattle.std.specs.Prelude.{◌≡◌, map, IfOk};
 ghost use Rattle.node.specs.Format.{encode};
 ghost use Rattle.node.specs.Values.{link_of, entry_of};
 
-use anyhow::anyhow;
+use anyhow::Context;
 use digest::{Digest, DigestKind};
 use keys::Key;
 use node::{BLOCK_LIMIT, Entry};
@@ -20,9 +20,7 @@ pub(crate) fn block_of<K: DigestKind>(
     ensures { IfOk result (λ v. v.items ≡ encode K.DigestKind.kind.code (record { first = link_of first; entries = map entry_of entries.now })) }
 {
     let mut block = vec![in heap; 0; BLOCK_LIMIT]?;
-    let Some(len) = write_node::<K>(&mut block, first, entries) else {
-        return Err(anyhow!("no node has so many entries"));
-    };
+    let len = write_node::<K>(&mut block, first, entries).context("no node has so many entries")?;
     block.truncate(len);
     Ok(block)
 }
@@ -54,9 +52,10 @@ pub(crate) fn counted_keys(heap: Global, count: u8) -> anyhow::Result<Vec<u8>> {
     for byte in 0..count {
         let alone = block_of::<Sha256>(heap, None, &[entry(&[byte], None)?])?;
         // An entry alone stands behind four bytes and before three.
-        let Some(written) = alone.as_slice().get(4..alone.len().saturating_sub(3)) else {
-            return Err(anyhow!("no entry"));
-        };
+        let written = alone
+            .as_slice()
+            .get(4..alone.len().saturating_sub(3))
+            .context("no entry")?;
         block.extend_from_slice(written)?;
     }
     block.extend_from_slice(b"\x61l\xF6")?;
@@ -66,8 +65,6 @@ pub(crate) fn counted_keys(heap: Global, count: u8) -> anyhow::Result<Vec<u8>> {
 // The entry of a key.
 fn entry(key: &[u8], after: Option<Digest>) -> anyhow::Result<Entry> {
     let value = Sha256::digest(key);
-    match Key::new(key) {
-        Some(key) => Ok(Entry { key, value, after }),
-        None => Err(anyhow!("no key")),
-    }
+    let key = Key::new(key).context("no key")?;
+    Ok(Entry { key, value, after })
 }

@@ -53,24 +53,12 @@ pub(crate) fn judge<K: DigestKind>(heap: Global, block: &[u8]) -> anyhow::Result
 fn entries_of(heap: Global, reader: &NodeReader) -> Result<Vec<Entry>, AllocError>
     ensures { IfOk result (λ v. (n : Node) → OfNode reader.now n → map entry_of v.items ≡ n.entries) }
 {
-    let mut entries = Vec::new(heap);
-    let mut cursor = reader.start();
-    while let Some(step) = reader.next(cursor) {
-        entries.push(step.entry)?;
-        cursor = step.next;
-    }
-    Ok(entries)
+    reader.entries().collect(heap)
 }
 
 // How many of the verdicts are `wanted`.
 pub(crate) fn times(verdicts: &[Verdict], wanted: Verdict) -> usize
     ensures { result ≡ times_in wanted verdicts.now }
 {
-    let mut count = 0;
-    for verdict in verdicts {
-        if *verdict == wanted {
-            count += 1;
-        }
-    }
-    count
+    verdicts.iter().filter(|v| **v == wanted).count()
 }

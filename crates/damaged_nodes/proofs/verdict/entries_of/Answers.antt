@@ -1,10 +1,14 @@
--- With each step the entries are those up to the next cursor, and in the end all.
-use Rattle.damaged_nodes.proofs.Handed.{handed_more, handed_all}
+-- The entries that the reader gives are those of its node.
+use Rattle.std.proofs.Common.{◌≡◌, map, vec_items}
+use Rattle.std.proofs.lemmas.Iterator.Consumers.{map_from_collect}
+use Rattle.node.specs.Format.{Node}
+use Rattle.node.specs.Values.{entry_of}
+use Rattle.node_reader.specs.Reader.{OfNode}
+use Rattle.node_reader.proofs.Finds.{yields_entries}
+use Rattle.damaged_nodes.proofs.Handed.{ok_each}
 use Rattle.damaged_nodes.proofs.verdict.entries_of.Goals as goal
 
-pub loop-step-preserved : goal.loop-step-preserved
-loop-step-preserved c =
-    handed_more _ _ _ _ _ c.in-Some.step.entry c.in_ok-push.ensures.items c.in-Some.ensures c.loop-step.invariant
-
 pub returns : goal.returns
-returns c = handed_all _ _ c.loop-step.cursor c.in_default.ensures c.loop-step.invariant
+returns c =
+    ok_each c.collect.result (OfNode c.args.reader.now) (λ v (n : Node). map entry_of (vec_items v) ≡ n.entries)
+    (λ n of. map_from_collect c.collect.result c.collect.ensures.ran (yields_entries c.entries.result n (c.entries.ensures.left n of)))
