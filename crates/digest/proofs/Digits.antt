@@ -1,18 +1,19 @@
 -- The digits of bytes, as the library writes them. Assumes nothing.
 use Rattle.std.proofs.Common.{◌≡◌, ℕ, ◌+◌, ◌-◌, ◌/◌, ◌%◌, ◌^◌, ◌<◌, false, List, [], ◌∷◌, ◌++◌, length, get_or, take, map, codes, sym, refl, ap, ◌∙◌, arith}
-use Rattle.std.specs.List.{range_with_len}
+use Rattle.std.specs.List.{range_with_len, flat_map}
 use Rattle.std.specs.Fmt.{digits, digit_glyph, format_spec, padded_integral}
 use Rattle.std.proofs.lemmas.Fmt.{hex_byte}
 use Rattle.std.proofs.lemmas.List.{take_more}
 use Rattle.std.proofs.lemmas.List.FromFn.{get_or-map-range_with_len}
-use Rattle.hex.specs.Hex.{encode_with, encode_lower}
 use Rattle.digest.specs.Hex.{hex_digit, hex}
 
--- what the library's encoder writes
-pub encode_lower-hex : (bytes : List ℕ) → encode_lower bytes ≡ hex bytes
-unfolding encode_with
-encode_lower-hex [] = refl
-encode_lower-hex (b ∷ bytes) = ap (λ rest. hex_digit (b / 16) ∷ (hex_digit (b % 16) ∷ rest)) (encode_lower-hex bytes)
+-- two digits for each byte
+abbrev pub two_digits : ℕ → List ℕ
+two_digits b = hex_digit (b / 16) ∷ (hex_digit (b % 16) ∷ [])
+
+pub hex-flat_map : (bytes : List ℕ) → flat_map two_digits bytes ≡ hex bytes
+hex-flat_map [] = refl
+hex-flat_map (b ∷ bytes) = ap (λ rest. hex_digit (b / 16) ∷ (hex_digit (b % 16) ∷ rest)) (hex-flat_map bytes)
 
 hex-append : (a b : List ℕ) → hex (a ++ b) ≡ hex a ++ hex b
 hex-append [] b = refl

@@ -1,9 +1,11 @@
 // A digest as text.
-ghost use Rattle.std.specs.Prelude.{◌≡◌, Some};
-ghost use Rattle.digest.specs.Hex.{hex};
+ghost use Rattle.std.specs.Prelude.{◌≡◌, ◌<◌, [], ◌∷◌, Some, ◌/◌, ◌%◌};
+ghost use Rattle.digest.specs.Hex.{hex_digit, hex};
 
 use crate::digest::Digest;
 use std::fmt;
+
+const DIGITS: [u8; 16] = *b"0123456789abcdef";
 
 impl Digest {
     // 64 lower-case hexadecimal digits, the high half of each byte first.
@@ -11,7 +13,7 @@ impl Digest {
         ensures { result ≡ hex self.now.bytes }
     {
         let mut text = [0; 64];
-        hex::encode_to_slice(self.bytes, &mut text).unwrap();
+        text.copy_from_slice(self.bytes.map(digits).as_flattened());
         text
     }
 }
@@ -26,4 +28,19 @@ impl fmt::Display for Digest {
         }
         Ok(())
     }
+}
+
+// The digits of a byte, that of its high half first.
+fn digits(byte: u8) -> [u8; 2]
+    ensures { result ≡ hex_digit (byte / 16) ∷ (hex_digit (byte % 16) ∷ []) }
+{
+    [digit(byte / 16), digit(byte % 16)]
+}
+
+// The digit of a half byte.
+fn digit(half: u8) -> u8
+    requires { half < 16 }
+    ensures { result ≡ hex_digit half }
+{
+    DIGITS[half as usize]
 }
