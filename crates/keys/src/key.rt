@@ -5,7 +5,7 @@ mod equal;
 mod make;
 mod read;
 
-// 1 to 64 bytes. What stands in the room past them means nothing.
+// 1 to 64 bytes. What stands in the room past them means nothing. An array with a length: keys are copied, and take no memory.
 #[derive(Clone, Copy)]
 pub struct Key {
     bytes: [u8; 64],

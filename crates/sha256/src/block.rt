@@ -39,7 +39,8 @@ fn eight_rounds(start: State, constants: &[u32; 8], words: &[u32; 8]) -> State
     )
 }
 
-// The 64 words of the rounds: those of the block, and 48 made from them.
+// The 64 words of the rounds: those of the block, and 48 made from them. By place: a word comes from words before it in the same array, which
+// an iterator over it would hold.
 fn schedule(block: &[u8; 64]) -> [u32; 64]
     ensures { result ≡ schedule block.now }
 {
