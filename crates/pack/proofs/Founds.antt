@@ -9,9 +9,8 @@ use Rattle.store.specs.Runs.{Pair}
 use Rattle.pack.specs.Block.{block_from, part_bytes}
 use Rattle.pack.specs.Memory.{held_among}
 use Rattle.pack.specs.Pack.{Fits, block_sectors, blocks, full_parts, named, parts}
-use Rattle.pack.specs.Scan.{FirstNamed, any_named}
 use Rattle.pack.specs.Sector.{count_of, last, more_follows, name_of, payload_of, sector}
-use Rattle.pack.proofs.Named.{any_append}
+use Rattle.pack.proofs.Named.{FirstNamed, any_append, any_named}
 use Rattle.pack.proofs.Readings.{Cut, at_least}
 use Rattle.pack.proofs.Sectors.{sector-count, sector_kind, sector_name, sector_payload}
 

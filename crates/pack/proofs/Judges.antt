@@ -9,7 +9,7 @@ use Rattle.pack.specs.Memory.{Sectored, sectored}
 use Rattle.pack.specs.Pack.{sectors_in}
 use Rattle.pack.specs.Reader.{Reading, good, bad, read_sectors}
 use Rattle.pack.specs.Scan.{scanned}
-use Rattle.pack.specs.Test.{Judged, Verdict, accepted, refused, fault_told, read_verdict, scan_told, tested, verdict}
+use Rattle.pack.specs.Test.{Judged, Verdict, accepted, refused, fault_told, read_verdict, tested, verdict}
 use Rattle.pack.specs.declared.fault.MemoryFault.{MemoryFault}
 use Rattle.pack.specs.declared.fault.MemoryFault.TheVariants.{NoSectors}
 use Rattle.pack.proofs.Bads.{Bytes, first_bad, read_good}
@@ -51,7 +51,7 @@ as_verdict (Err fault) = fault_told fault
 
 pub test_tells : (m : List ℕ) → as_verdict (tested m) ≡ verdict m
 test_tells m = by_size (sectored m) (read_sectors (sectors_in m)) where
-  by_size : (b : Bool) (r : Reading) → as_verdict (cond b (scan_told (scanned r)) (Err NoSectors)) ≡ cond b (read_verdict r) (refused 14)
+  by_size : (b : Bool) (r : Reading) → as_verdict (cond b (scanned r) (Err NoSectors)) ≡ cond b (read_verdict r) (refused 14)
   by_size true (good pairs unused) = refl
   by_size true (bad s) = refl
   by_size false r = refl

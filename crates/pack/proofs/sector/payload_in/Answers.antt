@@ -3,7 +3,7 @@ use Rattle.std.proofs.Common.{◌≡◌, ◌+◌, ◌-◌, min, drop, ap, arith}
 use Rattle.std.proofs.lemmas.List.{length-take}
 use Rattle.pack.specs.Block.{part_bytes}
 use Rattle.pack.specs.Sector.{count_of, payload_of}
-use Rattle.pack.proofs.read.payload_in.Goals as goal
+use Rattle.pack.proofs.sector.payload_in.Goals as goal
 
 pub returns : goal.returns
 unfolding part_bytes
