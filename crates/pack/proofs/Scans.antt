@@ -176,10 +176,6 @@ inside_last ss at name part whole i same stops over =
         let next : step (length ss - (at + 1)) (inside i.pairs name part i.bytes) s ≡ Some (between pairs) = rw (same, stops, over) in
         sym (read_by (inside i.pairs name part i.bytes) ss at (Some (between pairs)) i.within next)
 
--- a part that another can follow has a small number
-pub part_small : (left part : ℕ) (s : List ℕ) → goes_on left part s ≡ true → part + 1 < 65536
-part_small left part s more = let f = full left part s more in omega (arith, f.room)
-
 -- the answers of the scan, over the sectors of memory
 pub told_bad : (ss : List (List ℕ)) (m : List ℕ) (at : ℕ) → ss ≡ sectors_in m → read_sectors ss ≡ bad at → Err (BadSector at) ≡ scanned (read_sectors (sectors_in m))
 told_bad ss m at is found = sym (ap (λ xs. scanned (read_sectors xs)) (sym is) ∙ ap scanned found)

@@ -19,7 +19,7 @@ use Rattle.pack.specs.Test.{tested}
 use Rattle.pack.specs.declared.fault.MemoryFault.{MemoryFault}
 use Rattle.pack.specs.declared.fault.MemoryFault.TheVariants.{NoSectors}
 use Rattle.pack.proofs.Bads.{read_good}
-use Rattle.pack.proofs.Cuts.{sector-count}
+use Rattle.store.proofs.Chunks.{length_chunked}
 use Rattle.pack.proofs.Founds.{absent, block_parts, find_first}
 use Rattle.pack.proofs.Named.{FirstNamed, any_blocks, any_named, searched}
 use Rattle.pack.proofs.Names.{same_turned, sound_push}
@@ -180,7 +180,7 @@ made_good m used e = by_size (sectored m) refl (read_sectors (sectors_in m)) ref
       let count : used ≡ length (blocks ps) = cc in
       let u : used_in m ≡ length (blocks ps) = ap (λ r. length (blocks (pairs_read r))) read in
       let f : free_in m ≡ unused = ap free_read read in
-      let size : length m / 512 ≡ length (blocks ps) + unused = sym (sector-count m) ∙ ap length h.is ∙ length-append (blocks ps) (replicate unused unused_sector) ∙ ap (λ k. length (blocks ps) + k) (length-replicate unused unused_sector) in
+      let size : length m / 512 ≡ length (blocks ps) + unused = sym (length_chunked 512 (length m / 512) m) ∙ ap length h.is ∙ length-append (blocks ps) (replicate unused unused_sector) ∙ ap (λ k. length (blocks ps) + k) (length-replicate unused unused_sector) in
       (count ∙ sym u, omega arith, omega arith)
 
 pub made_bad : (m : List ℕ) (fault : MemoryFault) → Err fault ≡ tested m → (0 ≡ used_in m) × (0 ≡ free_in m)

@@ -15,11 +15,6 @@ length_fulls : (name : List ℕ) (part k : ℕ) (bytes : List ℕ) → length (f
 length_fulls name part zero bytes = refl
 length_fulls name part (suc k) bytes = ap suc (length_fulls name (part + 1) k (drop 468 bytes))
 
-pub written_none : (ss : List (List ℕ)) (place : ℕ) (name block : List ℕ) → ss ≡ so_far ss place name block 0
-written_none ss place name block =
-    let here : place ≡ place + 0 = omega arith in
-    sym (take-append-drop place ss) ∙ ap (λ n. take place ss ++ drop n ss) here
-
 -- one sector more
 set_next : (ss : List (List ℕ)) (place : ℕ) (name block w : List ℕ) (part : ℕ) → place + part < length ss → set (so_far ss place name block part) (place + part) w ≡ take place ss ++ ((fulls name 0 part (take (part * 468) block) ++ (w ∷ [])) ++ drop (place + part + 1) ss)
 set_next ss place name block w part within =

@@ -1,9 +1,9 @@
 -- Full parts are written one after the other, and then the last.
-use Rattle.std.proofs.Common.{◌≡◌, ◌+◌, ◌-◌, ◌*◌, ◌<◌, ◌≤◌, length, set, ap, ◌∙◌, arith}
+use Rattle.std.proofs.Common.{◌/◌, ◌≡◌, ◌+◌, ◌-◌, ◌*◌, ◌<◌, ◌≤◌, length, set, ap, ◌∙◌, arith}
 use Rattle.std.proofs.lemmas.List.{take_rest}
 use Rattle.pack.specs.Pack.{sector_cost, sectors_in}
 use Rattle.pack.specs.Sector.{sector}
-use Rattle.pack.proofs.Cuts.{sector-count}
+use Rattle.store.proofs.Chunks.{length_chunked}
 use Rattle.pack.proofs.Readings.{block_cut}
 use Rattle.pack.proofs.Writes.{so_far, written_more, written_last}
 use Rattle.pack.proofs.write.write_block.Goals as goal
@@ -15,7 +15,7 @@ loop-number-preserved c =
     let place = c.args.place in
     let block = c.args.block.bytes.now in
     let cut = block_cut (length block) c.args.block.short in
-    let within : place + number < length ss = omega (arith, sector-count c.args.memory.now, c.requires, c.loop-number-test.true, c.sectors_for-full.ensures) in
+    let within : place + number < length ss = omega (arith, length_chunked 512 (length c.args.memory.now / 512) c.args.memory.now, c.requires, c.loop-number-test.true, c.sectors_for-full.ensures) in
     let room : (number + 1) * 468 ≤ length block = omega (arith, cut.least, c.loop-number-test.true, c.sectors_for-full.ensures) in
     c.write_sector.ensures
     ∙ ap (λ xs. set xs (place + number) c.to_sector.result) c.loop-number.invariant
@@ -30,7 +30,7 @@ returns c =
     let block = c.args.block.bytes.now in
     let count : full ≡ sector_cost (length block) - 1 = ap (λ n. n - 1) c.sectors_for-full.ensures in
     let upto : c.loop-number.number ≡ full = omega arith in
-    let room : place + sector_cost (length block) ≤ length ss = omega (arith, sector-count c.args.memory.now, c.requires) in
+    let room : place + sector_cost (length block) ≤ length ss = omega (arith, length_chunked 512 (length c.args.memory.now / 512) c.args.memory.now, c.requires) in
     let w = c.to_sector-2.result in
     c.write_sector-2.ensures
     ∙ ap (λ xs. set xs (place + full) w) (c.loop-number.invariant ∙ ap (so_far ss place name block) upto)

@@ -2,7 +2,7 @@
 use Rattle.std.proofs.Common.{◌≡◌, ◌+◌, ◌-◌, ◌*◌, ap, ◌∙◌, arith}
 use borrow.Rule.Slice.PartMut.{put_mid}
 use Rattle.pack.specs.Pack.{sectors_in}
-use Rattle.pack.proofs.Cuts.{sector_written}
+use Rattle.store.proofs.Chunks.{piece_written}
 use Rattle.pack.proofs.write.write_sector.Goals as goal
 
 pub returns : goal.returns
@@ -12,4 +12,4 @@ returns c =
     let size : at + 512 - at ≡ 512 = omega arith in
     ap (λ w. sectors_in (put_mid at (at + 512 - at) m w)) c.copy_from_slice.ensures.after
     ∙ ap (λ n. sectors_in (put_mid at n m c.args.sector.now)) size
-    ∙ sector_written m c.args.sector.now c.args.place c.requires c.told-sector
+    ∙ piece_written 512 c.args.place m c.args.sector.now c.requires c.told-sector

@@ -1,11 +1,11 @@
 -- The block takes the first unused sectors.
-use Rattle.std.proofs.Common.{◌+◌, ◌≤◌, ◌++◌, length, take, drop, sym, ap, ◌∙◌, subst, arith, rules}
+use Rattle.std.proofs.Common.{◌/◌, ◌+◌, ◌≤◌, ◌++◌, length, take, drop, sym, ap, ◌∙◌, subst, arith, rules}
 use Rattle.store.specs.Calls.{answer_of, left_by}
 use Rattle.store.proofs.Outcomes.{outcome_added}
 use Rattle.pack.specs.Memory.{free_in, free_read, pack_meaning}
 use Rattle.pack.specs.Pack.{block_sectors, sector_cost, sectors_in}
 use Rattle.pack.specs.Put.{Kept, sectors_left}
-use Rattle.pack.proofs.Cuts.{sector-count}
+use Rattle.store.proofs.Chunks.{length_chunked}
 use Rattle.pack.proofs.Stores.{added_read, known, meaning_written, used_written}
 use Rattle.pack.proofs.pack.Pack.add.Goals as goal
 
@@ -13,13 +13,13 @@ pub write_block-requires : goal.write_block-requires
 write_block-requires c =
     let s = c.args.self.now in
     let m = s.memory.now in
-    omega (arith, (known m).room, sector-count m, c.sectors_for-cost.ensures, s.filled, s.vacant)
+    omega (arith, (known m).room, length_chunked 512 (length m / 512) m, c.sectors_for-cost.ensures, s.filled, s.vacant)
 
 pub overflow_add-self : goal.overflow_add-self
 overflow_add-self c =
     let s = c.args.self.now in
     let m = s.memory.now in
-    let room : s.used + c.sectors_for-cost.result ≤ length m = omega (arith, (known m).room, sector-count m, s.filled, s.vacant, c.if-cost-self.false) in
+    let room : s.used + c.sectors_for-cost.result ≤ length m = omega (arith, (known m).room, length_chunked 512 (length m / 512) m, s.filled, s.vacant, c.if-cost-self.false) in
     search rules
 
 pub invariant_of-self : goal.invariant_of-self
