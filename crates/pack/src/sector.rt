@@ -58,9 +58,9 @@ pub(crate) fn weigh(bytes: &[u8]) -> u32
     requires { length bytes.now ≤ 508 }
     ensures { result ≡ weighed 1 bytes.now }
 {
-    let mut sum: u32 = 0;
-    for (i, byte) in bytes.iter().enumerate() {
-        sum += (i as u32 + 1) * u32::from(*byte);
+    let mut sum = 0;
+    for (byte, weight) in bytes.iter().zip(1..) {
+        sum += weight * u32::from(*byte);
     }
     sum
 }
