@@ -1,5 +1,5 @@
 -- What was summed and what is left make up all.
-use Rattle.std.proofs.Common.{◌≡◌, ℕ, suc, ◌+◌, ◌*◌, ◌<◌, ◌≤◌, [], ◌∷◌, List, length, get_or, refl, ap, subst, ⊎_elim, arith, rules}
+use Rattle.std.proofs.Common.{◌≡◌, ℕ, suc, ◌+◌, ◌*◌, ◌<◌, ◌≤◌, length, get_or, ap, subst, ⊎_elim, arith, rules}
 use Rattle.pack.specs.Sector.{weighed}
 use Rattle.pack.proofs.Walks.{term_bound, weighed_end}
 use Rattle.pack.proofs.sector.weigh.Goals as goal
@@ -28,8 +28,7 @@ loop-byte-preserved c =
     let sum = c.loop-byte.sum in
     let all = ap (weighed c.loop-byte.byte-iterator.b.start) steps.0 in
     let here : c.loop-byte.byte-iterator.b.start * c.in-Some.byte.now ≡ c.in-Some.weight * c.from.result = grind (arith, steps.1.0, c.from.ensures) in
-    let next : weighed c.next.new.self.b.start c.next.new.self.a.rest.now ≡ weighed (c.loop-byte.byte-iterator.b.start + 1) c.next.new.self.a.rest.now = grind (arith, steps.1.0, steps.1.1) in
-    (
+    let next : weighed c.next.new.self.b.start c.next.new.self.a.rest.now ≡ weighed (c.loop-byte.byte-iterator.b.start + 1) c.next.new.self.a.rest.now = grind (arith, steps.1.0, steps.1.1) in (
       omega (arith, steps.1.0, steps.1.1, ap length steps.0, c.loop-byte.invariant.0),
       omega (arith, bounded c, steps.1.1),
       omega (arith, all, here, next, c.loop-byte.invariant.2),
