@@ -21,6 +21,7 @@ pub(crate) const PAYLOAD_AT: usize = 40;
 pub(crate) const SUM_AT: usize = 508;
 
 // Whether a sector is unused.
+#[tactic(auto, unfolding(crate::specs::Sector::unused_sector, crate::specs::Sector::zeros))]
 pub(crate) fn is_unused(sector: &Sector) -> bool
     ensures { result ≡ bytes_eq sector.now unused_sector }
 {

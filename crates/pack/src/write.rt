@@ -29,13 +29,14 @@ pub(crate) fn write_block(memory: &mut [u8], place: usize, name: &Digest, block:
     ensures { sectors_in memory.new ≡ take place (sectors_in memory.old) ++ (block_sectors name.now.bytes block.entry.bytes.now ++ drop (place + sector_cost (length block.entry.bytes.now)) (sectors_in memory.old)) }
 {
     let full = sectors_for(block.bytes.len()) - 1;
-    for number in 0..full {
-        let at = number * PART_SIZE;
+    let (front, payload) = block.bytes.split_at(full * PART_SIZE);
+    let (payloads, _) = front.as_chunks::<PART_SIZE>();
+    for (number, payload) in payloads.iter().enumerate() {
         let part = Part {
             kind: PartKind::MoreFollows,
             number: number as u16,
             name: *name,
-            payload: &block.bytes[at..at + PART_SIZE],
+            payload,
         };
         write_sector(memory, place + number, &part.to_sector());
     }
@@ -43,7 +44,7 @@ pub(crate) fn write_block(memory: &mut [u8], place: usize, name: &Digest, block:
         kind: PartKind::Last,
         number: full as u16,
         name: *name,
-        payload: &block.bytes[full * PART_SIZE..],
+        payload,
     };
     write_sector(memory, place + full, &last.to_sector());
 }

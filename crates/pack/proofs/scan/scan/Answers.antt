@@ -10,7 +10,7 @@ use Rattle.pack.specs.Sector.{unused_sector}
 use Rattle.pack.proofs.Bads.{Whole}
 use Rattle.pack.proofs.Named.{any_found, any_named}
 use Rattle.pack.specs.Scan.{is_used}
-use Rattle.pack.proofs.Scans.{Inside, bad_name, bad_part, bad_part_name, between_start, inside_last, inside_more, inside_start, scan_ends, scan_good, told_bad, told_good}
+use Rattle.pack.proofs.Scans.{Inside, bad_name, between_start, inside_last, inside_more, inside_start, scan_ends, scan_good, told_bad, told_good}
 use Rattle.pack.proofs.scan.scan.Goals as goal
 use Rattle.pack.proofs.scan.scan.Goals.{then-at-count-via-then-at-count, then-at-count-via-else-at-count+then-is_unused}
 
@@ -47,9 +47,6 @@ parts-preserved c =
     let more : goes_on (length ss - (at + 1)) c.parts.part (get_or ss at []) ≡ true = ap (λ n. goes_on n c.parts.part (get_or ss at [])) (sym left) ∙ sym c.if-goes_on.ensures in
     (omega (arith, c.parts.invariant.0), inside_more ss at _ c.parts.part whole c.parts.invariant.1 (sym c.if-not-has_name.ensures) more)
 
-pub scan-smaller : goal.scan-smaller
-scan-smaller c = omega (arith, c.parts.invariant.0, c.parts.invariant.1.within)
-
 pub scan-preserved : goal.scan-preserved
 scan-preserved c =
     let ss = c.as_chunks.result.0.now in
@@ -77,16 +74,3 @@ returns-then-is_some c =
     let name = c.name_in-name.result.bytes in
     let twice : any_named (take at ss) name ≡ true = ap (λ n. any_named (take n ss) name) (sym (sub-zero at)) ∙ any_found name (take (at - 0) ss) c.first_named.result c.first_named.ensures ∙ sym c.if-is_some.ensures in
     told_bad ss c.args.memory.now at c.as_chunks.ensures.front (bad_name ss at c.scan.invariant within (sym c.if-is_unused.ensures) (ap (any_named (take at ss)) (sym c.name_in-name.ensures) ∙ twice))
-
-pub returns-then-not-has_name : goal.returns-then-not-has_name
-returns-then-not-has_name c =
-    let ss = c.as_chunks.result.0.now in
-    told_bad ss c.args.memory.now c.parts.at c.as_chunks.ensures.front (bad_part_name ss c.parts.at _ c.parts.part c.parts.invariant.1 (sym c.if-not-has_name.ensures))
-
-pub returns-then-not-ends : goal.returns-then-not-ends
-returns-then-not-ends c =
-    let ss = c.as_chunks.result.0.now in
-    let at = c.parts.at in
-    let left : length ss - at - 1 ≡ length ss - (at + 1) = omega arith in
-    let stops : goes_on (length ss - (at + 1)) c.parts.part (get_or ss at []) ≡ false = ap (λ n. goes_on n c.parts.part (get_or ss at [])) (sym left) ∙ sym c.if-goes_on.ensures in
-    told_bad ss c.args.memory.now at c.as_chunks.ensures.front (bad_part ss at _ c.parts.part c.parts.invariant.1 stops (sym c.if-not-ends.ensures) (sym c.if-not-has_name.ensures))

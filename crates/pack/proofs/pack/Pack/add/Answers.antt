@@ -1,10 +1,9 @@
 -- The block takes the first unused sectors.
-use Rattle.std.proofs.Common.{◌/◌, ◌+◌, ◌≤◌, ◌++◌, length, take, drop, sym, ap, ◌∙◌, subst, arith, rules}
-use Rattle.store.specs.Calls.{answer_of, left_by}
+use Rattle.std.proofs.Common.{◌/◌, ◌+◌, ◌≤◌, length, sym, ap, ◌∙◌, arith, rules}
+use Rattle.store.specs.Calls.{left_by}
 use Rattle.store.proofs.Outcomes.{outcome_added}
 use Rattle.pack.specs.Memory.{free_in, free_read, pack_meaning}
-use Rattle.pack.specs.Pack.{block_sectors, sector_cost, sectors_in}
-use Rattle.pack.specs.Put.{Kept, sectors_left}
+use Rattle.pack.specs.Pack.{sector_cost}
 use Rattle.store.proofs.Chunks.{length_chunked}
 use Rattle.pack.proofs.Stores.{added_read, known, meaning_written, used_written}
 use Rattle.pack.proofs.pack.Pack.add.Goals as goal
@@ -35,22 +34,13 @@ invariant_of-self c =
       vacant = omega (arith, ap free_read is, s.vacant, c.sectors_for-cost.ensures);
     }
 
-pub returns : goal.returns
-returns c =
+pub returns-clause-after : goal.returns-clause-after
+returns-clause-after c =
     let s = c.args.self.now in
     let m = s.memory.now in
-    let n = c.write_block.new.memory in
     let name = c.args.name.now.bytes in
     let block = c.args.block.bytes.now in
-    let is = added_read m n s.used s.free c.sectors_for-cost.result name block s.filled s.vacant c.sectors_for-cost.ensures c.if-cost-self.false c.write_block.auto.memory c.args.name.now.size c.args.block.short c.requires c.write_block.ensures in
+    let is = added_read m c.write_block.new.memory s.used s.free c.sectors_for-cost.result name block s.filled s.vacant c.sectors_for-cost.ensures c.if-cost-self.false c.write_block.auto.memory c.args.name.now.size c.args.block.short c.requires c.write_block.ensures in
     let room : sector_cost (length block) ≤ free_in m = omega (arith, c.if-cost-self.false, c.sectors_for-cost.ensures, s.vacant) in
     let o = outcome_added (pack_meaning m) name block c.args.block.short c.requires room in
-    record {
-      answer = sym (ap answer_of o);
-      after = meaning_written m n name block c.requires is ∙ sym (ap (λ k. left_by k (pack_meaning m) name block) o);
-      sectors =
-          c.write_block.ensures
-          ∙ ap (λ k. take k (sectors_in m) ++ (block_sectors name block ++ drop (k + sector_cost (length block)) (sectors_in m))) s.filled
-          ∙ sym (ap (λ k. sectors_left k m name block) o);
-      kept = subst (λ k. Kept k m n) (sym o) tt;
-    }
+    meaning_written m c.write_block.new.memory name block c.requires is ∙ sym (ap (λ k. left_by k (pack_meaning m) name block) o)

@@ -1,5 +1,5 @@
 -- The test tells how many sectors are used.
-use Rattle.std.proofs.Common.{refl, ap, ◌∙◌}
+use Rattle.std.proofs.Common.{ap, ◌∙◌}
 use Rattle.pack.proofs.Stores.{known, made_bad, made_good}
 use Rattle.pack.proofs.pack.Pack.new.Goals as goal
 use Rattle.pack.proofs.pack.Pack.new.Goals.{in-Ok, in-Err}
@@ -17,5 +17,5 @@ invariant_of-result c = elim c.match-used_sectors.branch [
       record { filled = ap (λ p. p.0) w.used-is ∙ h.0; vacant = ap (λ p. p.1) w.used-is ∙ h.1 }
 ]
 
-pub returns : goal.returns
-returns c = record { same = refl; sound = (known c.args.memory.now).sound }
+pub returns-clause-sound : goal.returns-clause-sound
+returns-clause-sound c = (known c.args.memory.now).sound
