@@ -7,6 +7,7 @@ use Rattle.std.proofs.lemmas.Slice.Eq.{bytes_eq-Decides}
 use Rattle.std.specs.List.{position, position_from}
 use Rattle.std.proofs.lemmas.Iterator.Adapters.{position_from-zero}
 use Rattle.std.proofs.lemmas.Bool.{or_right}
+use Rattle.std.proofs.Math.Bool.{or_assoc, or_self, or-false}
 use Rattle.store.specs.Runs.{Pair}
 use Rattle.pack.specs.Sector.{sector, more_follows, last, name_of}
 use Rattle.pack.specs.Pack.{Fits, block_sectors, blocks, full_parts, named, parts}
@@ -24,25 +25,13 @@ pub record FirstNamed (ss : List (List ℕ)) (name : List ℕ) (i : ℕ) : Type 
   pub here : name_of (get_or ss i []) ≡ name
   pub before : any_named (take i ss) name ≡ false
 
-or_assoc : (a b c : Bool) → ((a || b) || c) ≡ (a || (b || c))
-or_assoc true b c = refl
-or_assoc false b c = refl
-
-or_self : (b : Bool) → (b || b) ≡ b
-or_self true = refl
-or_self false = refl
-
-or_false : (b : Bool) → (b || false) ≡ b
-or_false true = refl
-or_false false = refl
-
 pub any_append : (xs ys : List (List ℕ)) (name : List ℕ) → any_named (xs ++ ys) name ≡ (any_named xs name || any_named ys name)
 any_append [] ys name = refl
 any_append (x ∷ xs) ys name = ap (λ b. bytes_eq (name_of x) name || b) (any_append xs ys name) ∙ sym (or_assoc (bytes_eq (name_of x) name) (any_named xs name) (any_named ys name))
 
 -- every part of a block has its name
 pub any_parts : (name : List ℕ) (part k : ℕ) (block other : List ℕ) → length name ≡ 32 → any_named (parts name part k block) other ≡ bytes_eq name other
-any_parts name part zero block other long = or_false (bytes_eq (name_of (sector last part name block)) other) ∙ ap (λ n. bytes_eq n other) (sector_name 2 part name block long)
+any_parts name part zero block other long = or-false (bytes_eq (name_of (sector last part name block)) other) ∙ ap (λ n. bytes_eq n other) (sector_name 2 part name block long)
 any_parts name part (suc k) block other long =
     ap (λ b. bytes_eq (name_of (sector more_follows part name (take 468 block))) other || b) (any_parts name (part + 1) k (drop 468 block) other long)
     ∙ ap (λ n. bytes_eq n other || bytes_eq name other) (sector_name 1 part name (take 468 block) long)

@@ -120,18 +120,6 @@ bad_name ss at b within used twice =
     let none : step (length ss - (at + 1)) (between b.pairs) (get_or ss at []) ≡ None = rw (used, old) in
     sym b.reads ∙ read_by (between b.pairs) ss at None within none
 
--- a part of another name
-pub bad_part_name : (ss : List (List ℕ)) (at : ℕ) (name : List ℕ) (part : ℕ) → Inside ss at name part → bytes_eq (name_of (get_or ss at [])) name ≡ false → read_sectors ss ≡ bad at
-bad_part_name ss at name part i other =
-    let none : step (length ss - (at + 1)) (inside i.pairs name part i.bytes) (get_or ss at []) ≡ None = rw other in
-    sym i.reads ∙ read_by (inside i.pairs name part i.bytes) ss at None i.within none
-
--- no part that may stand there
-pub bad_part : (ss : List (List ℕ)) (at : ℕ) (name : List ℕ) (part : ℕ) → Inside ss at name part → goes_on (length ss - (at + 1)) part (get_or ss at []) ≡ false → ends part (get_or ss at []) ≡ false → bytes_eq (name_of (get_or ss at [])) name ≡ true → read_sectors ss ≡ bad at
-bad_part ss at name part i stops never same =
-    let none : step (length ss - (at + 1)) (inside i.pairs name part i.bytes) (get_or ss at []) ≡ None = rw (same, stops, never) in
-    sym i.reads ∙ read_by (inside i.pairs name part i.bytes) ss at None i.within none
-
 pub inside_more : (ss : List (List ℕ)) (at : ℕ) (name : List ℕ) (part : ℕ) → AllByRecursion Whole ss → Inside ss at name part → bytes_eq (name_of (get_or ss at [])) name ≡ true → goes_on (length ss - (at + 1)) part (get_or ss at []) ≡ true → Inside ss (at + 1) name (part + 1)
 inside_more ss at name part whole i same more =
     let s = get_or ss at [] in

@@ -1,10 +1,5 @@
 -- Walks over the bytes of a sector. Assumes nothing.
-use Rattle.std.proofs.Common.{◌≡◌, ℕ, ◌+◌, ◌*◌, ◌<◌, ◌≤◌, List, [], ◌∷◌, length, refl, mul-le-mul_right, arith}
-use Rattle.pack.specs.Sector.{weighed}
-
-pub weighed_end : (weight : ℕ) (bytes : List ℕ) → length bytes ≡ 0 → weighed weight bytes ≡ 0
-weighed_end weight [] none = refl
-weighed_end weight (byte ∷ bytes) none = absurd (omega arith)
+use Rattle.std.proofs.Common.{ℕ, ◌+◌, ◌*◌, ◌<◌, ◌≤◌, mul-le-mul_right, arith}
 
 -- one byte more keeps the sum small
 pub term_bound : (sum weight byte : ℕ) → sum ≤ weight * 129540 → weight ≤ 508 → byte < 256 → sum + weight * byte ≤ (weight + 1) * 129540
