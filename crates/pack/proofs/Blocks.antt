@@ -1,9 +1,9 @@
 -- Walks over the parts of a block. Assumes nothing.
-use Rattle.std.proofs.Common.{◌≡◌, ℕ, ◌+◌, ◌-◌, ◌<◌, ◌≤◌, Bool, true, false, cond, ◌&&◌, eqb, List, [], ◌∷◌, ◌++◌, length, get_or, take, drop, sym, refl, ap, ◌∙◌, arith}
+use Rattle.std.proofs.Common.{◌≡◌, ℕ, suc, ◌+◌, ◌-◌, ◌<◌, ◌≤◌, false, cond, ◌&&◌, eqb, List, [], ◌∷◌, ◌++◌, length, get_or, take, drop, sym, refl, ap, ◌∙◌, arith}
 use borrow.Rule.Slice.PartMut.{put_mid}
 use Rattle.std.specs.Str.{bytes_eq}
-use Rattle.std.proofs.lemmas.List.{append_assoc, at_drop_all, at_drop_more, drop_all, drop_at, drop-drop, drop-take, length-append, length-drop, length-take-le, take_all, take-append-drop, take_at, take-take}
-use Rattle.std.proofs.lemmas.Bool.{eq-eqb, eqb-false, eqb-true, ne_eqb}
+use Rattle.std.proofs.lemmas.List.{append_assoc, at_drop_all, at_drop_more, drop_at, drop-drop, drop-take, length-append, length-drop, length-take-le, take_all, take-append-drop, take_at, take-take}
+use Rattle.std.proofs.lemmas.Bool.{eq-eqb, ne_eqb}
 use Rattle.pack.specs.Block.{block_from, part_bytes}
 use Rattle.pack.proofs.Sectors.{same_no}
 
@@ -69,20 +69,14 @@ same_front [] x y = refl
 same_front (b ∷ p) x y = ap (λ t. t && bytes_eq (p ++ x) (p ++ y)) (eq-eqb b b refl) ∙ same_front p x y
 
 -- a part that is the same is passed
-pub same_more : (b p x block : List ℕ) (at : ℕ) → b ≡ p ++ x → drop at block ≡ p ++ drop (length p) (drop at block) → bytes_eq b (drop at block) ≡ bytes_eq x (drop (at + length p) block)
-same_more b p x block at is starts =
-    ap (λ z. bytes_eq z (drop at block)) is
-    ∙ ap (bytes_eq (p ++ x)) starts
-    ∙ same_front p x (drop (length p) (drop at block))
-    ∙ ap (bytes_eq x) (drop-drop (length p) at block)
+pub passed : (b p x r y : List ℕ) → b ≡ p ++ x → r ≡ p ++ y → bytes_eq b r ≡ bytes_eq x y
+passed b p x r y is starts = ap (λ z. bytes_eq z r) is ∙ ap (bytes_eq (p ++ x)) starts ∙ same_front p x y
 
 -- one that is not tells
 pub same_not : (b p x y : List ℕ) → b ≡ p ++ x → ((rest : List ℕ) → y ≡ p ++ rest → ⊥) → bytes_eq b y ≡ false
 same_not b p x y is other = same_no b y (λ e. other x (sym e ∙ is))
 
 -- at the end of the parts
-pub same_none : (block : List ℕ) (at : ℕ) → at ≤ length block → bytes_eq [] (drop at block) ≡ eqb at (length block)
-same_none block at within = by_size (eqb at (length block)) refl where
-  by_size : (t : Bool) → eqb at (length block) ≡ t → bytes_eq [] (drop at block) ≡ t
-  by_size true e = let size : at ≡ length block = eqb-true at (length block) e in ap (bytes_eq []) (drop_all at block (omega arith))
-  by_size false e = same_no [] (drop at block) (λ z. eqb-false at (length block) e (omega (arith, length-drop at block, ap length z)))
+pub same_none : (ys : List ℕ) → eqb (length ys) 0 ≡ bytes_eq [] ys
+same_none [] = refl
+same_none (y ∷ ys) = ne_eqb (suc (length ys)) 0 (λ e. omega arith)

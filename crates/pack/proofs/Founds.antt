@@ -1,17 +1,16 @@
 -- A block is found where the first sector of its name stands. Assumes nothing.
-use Rattle.std.proofs.Common.{◌≡◌, ℕ, zero, suc, ◌+◌, ◌-◌, ◌<◌, ◌≤◌, min, Bool, true, false, cond, eqb, List, [], ◌∷◌, ◌++◌, length, get_or, take, drop, Some, None, sym, refl, ap, ◌∙◌, ⊎_elim, arith}
+use Rattle.std.proofs.Common.{◌≡◌, ℕ, zero, suc, ◌+◌, ◌-◌, ◌<◌, ◌≤◌, min, Bool, true, false, cond, eqb, List, [], ◌∷◌, ◌++◌, length, get_or, take, drop, Some, None, sym, refl, ap, ◌∙◌, arith}
 use Rattle.std.specs.List.{AllByRecursion}
 use Rattle.std.specs.Str.{bytes_eq}
 use Rattle.std.proofs.lemmas.Slice.Eq.{bytes_eq-Decides}
 use Rattle.std.proofs.lemmas.List.{append-nil, get_or_append_left, get_or-append_right, length-append, length-drop, length-take-le, take-append-drop}
-use Rattle.std.proofs.lemmas.Bool.{cases_lt, eq-eqb, ne_eqb, or_parts}
+use Rattle.std.proofs.lemmas.Bool.{eq-eqb, ne_eqb, or_parts}
 use Rattle.store.specs.Runs.{Pair}
 use Rattle.pack.specs.Block.{block_from, part_bytes}
 use Rattle.pack.specs.Memory.{held_among}
 use Rattle.pack.specs.Pack.{Fits, block_sectors, blocks, full_parts, named, parts}
-use Rattle.pack.specs.Scan.{FirstNamed, any_named}
 use Rattle.pack.specs.Sector.{count_of, last, more_follows, name_of, payload_of, sector}
-use Rattle.pack.proofs.Named.{any_append}
+use Rattle.pack.proofs.Named.{FirstNamed, any_append, any_named}
 use Rattle.pack.proofs.Readings.{Cut, at_least}
 use Rattle.pack.proofs.Sectors.{sector-count, sector_kind, sector_name, sector_payload}
 
@@ -85,9 +84,6 @@ drop_past (x ∷ xs) ys (suc i) past =
     let e : i - length xs ≡ suc i - suc (length xs) = omega arith in
     drop_past xs ys i (omega arith) ∙ ap (λ n. drop n ys) e
 
-not_below : (i n : ℕ) → (i < n → ⊥) → n ≤ i
-not_below i n above = ⊎_elim (λ l. absurd (above l)) (λ l. l) (cases_lt i n)
-
 pub find_first : (ps : List Pair) (name : List ℕ) (i : ℕ) → AllByRecursion Fits ps → FirstNamed (blocks ps) name i → Found ps name i
 find_first [] name i fit h = absurd (omega (arith, h.within))
 find_first (p ∷ ps) name i fit h = by_name (λ j. find_first ps name j fit.1) (bytes_eq p.name name) refl where
@@ -139,7 +135,7 @@ find_first (p ∷ ps) name i fit h = by_name (λ j. find_first ps name j fit.1) 
   by_name : ((j : ℕ) → FirstNamed (blocks ps) name j → Found ps name j) → (b : Bool) → bytes_eq p.name name ≡ b → Found (p ∷ ps) name i
   by_name again true e = here i h e
   by_name again false e =
-      let beyond : length own ≤ i = not_below i (length own) (past e) in
+      let beyond : length own ≤ i = omega (arith, past e) in
       later (again (i - length own) (shifted beyond)) e beyond
 
 -- a name that no sector has is not held

@@ -1,5 +1,5 @@
 -- The verdict on memory is right. Assumes nothing.
-use Rattle.std.proofs.Common.{◌≡◌, ℕ, zero, suc, ◌/◌, ◌%◌, ◌<◌, Bool, true, false, cond, eqb, ltb, List, length, drop, Ok, Err, Result, refl, arith}
+use Rattle.std.proofs.Common.{◌≡◌, ℕ, zero, suc, ◌/◌, ◌%◌, ◌<◌, Bool, true, false, cond, eqb, ltb, List, length, drop, refl, arith}
 use Rattle.std.specs.Simd.{first_chunks}
 use Rattle.std.specs.List.{AllByRecursion}
 use Rattle.std.proofs.ByRecursion.{All-drop, All-take}
@@ -8,10 +8,7 @@ use Rattle.pack.specs.Lawful.{whole_sectors}
 use Rattle.pack.specs.Memory.{Sectored, sectored}
 use Rattle.pack.specs.Pack.{sectors_in}
 use Rattle.pack.specs.Reader.{Reading, good, bad, read_sectors}
-use Rattle.pack.specs.Scan.{scanned}
-use Rattle.pack.specs.Test.{Judged, Verdict, accepted, refused, fault_told, read_verdict, scan_told, tested, verdict}
-use Rattle.pack.specs.declared.fault.MemoryFault.{MemoryFault}
-use Rattle.pack.specs.declared.fault.MemoryFault.TheVariants.{NoSectors}
+use Rattle.pack.specs.Test.{Judged, refused, read_verdict, verdict}
 use Rattle.pack.proofs.Bads.{Bytes, first_bad, read_good}
 
 bytes_chunks : (k : ℕ) (m : List ℕ) → Bytes m → AllByRecursion Bytes (first_chunks 512 k m)
@@ -43,15 +40,3 @@ judge m small = by_size (sectored m) refl where
   by_size : (b : Bool) → sectored m ≡ b → Judged m (cond b (read_verdict (read_sectors ss)) (refused 14))
   by_size true e = by_reading (is_sectored m e) (read_sectors ss) refl
   by_size false e = (refl, λ h. let t = tells_sectored m h in absurd (grind arith))
-
--- the result of the test tells the verdict
-abbrev pub as_verdict : Result ℕ MemoryFault → Verdict
-as_verdict (Ok used) = accepted
-as_verdict (Err fault) = fault_told fault
-
-pub test_tells : (m : List ℕ) → as_verdict (tested m) ≡ verdict m
-test_tells m = by_size (sectored m) (read_sectors (sectors_in m)) where
-  by_size : (b : Bool) (r : Reading) → as_verdict (cond b (scan_told (scanned r)) (Err NoSectors)) ≡ cond b (read_verdict r) (refused 14)
-  by_size true (good pairs unused) = refl
-  by_size true (bad s) = refl
-  by_size false r = refl

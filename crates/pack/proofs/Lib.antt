@@ -4,13 +4,11 @@ pub mod Readings
 pub mod Reaches
 pub mod Bads
 pub mod Walks
-pub mod Pieces
 pub mod Named
 pub mod Scans
 pub mod Judges
 pub mod Founds
 pub mod Stores
 pub mod Blocks
-pub mod Cuts
 pub mod Makes
 pub mod Writes

@@ -1,7 +1,8 @@
 -- The bytes of a sector, written one part after the other. Assumes nothing.
 use Rattle.std.proofs.Common.{◌≡◌, ℕ, ◌+◌, ◌-◌, ◌≤◌, List, [], ◌++◌, length, take, drop, sym, refl, ap, ◌∙◌, arith}
 use borrow.Rule.Slice.PartMut.{put_mid}
-use Rattle.std.proofs.lemmas.List.{append_assoc, append-nil, drop_at, drop-drop, drop-replicate, length-append, take_at, replicate-append-replicate}
+use Rattle.std.proofs.lemmas.List.{append_assoc, append-nil, drop_at, drop-drop, drop-replicate, length-append, length-drop, take_at, replicate-append-replicate}
+use Rattle.store.proofs.Chunks.{length-put}
 use Rattle.pack.specs.Sector.{body, four_bytes, head, sector, weighed, zeros}
 use Rattle.pack.proofs.Sectors.{length-body}
 
@@ -37,6 +38,13 @@ laid kind part name payload long short =
     ∙ ap (λ x. h ++ (name ++ x)) (sym (append_assoc payload pad (zeros 4)))
     ∙ ap (λ x. h ++ x) (sym (append_assoc name (payload ++ pad) (zeros 4)))
     ∙ sym (append_assoc h (name ++ (payload ++ pad)) (zeros 4))
+
+-- the pieces keep the length
+pub length_laid : (n : ℕ) (x y z blank : List ℕ) → length x ≡ 8 → length y ≡ 32 → length z ≡ n → n ≤ 468 → length blank ≡ 512 → length (put_mid 40 (40 + n - 40) (put_mid 8 32 (x ++ drop 8 blank) y) z) ≡ 512
+length_laid n x y z blank eight name load short empty =
+    let whole : length (x ++ drop 8 blank) ≡ 512 = omega (arith, length-append x (drop 8 blank), length-drop 8 blank) in
+    let named = length-put 8 32 (x ++ drop 8 blank) y (omega arith) name in
+    length-put 40 (40 + n - 40) (put_mid 8 32 (x ++ drop 8 blank) y) z (omega (arith, named)) (omega arith) ∙ named ∙ whole
 
 none : drop 4 (zeros 4) ≡ []
 unfolding zeros

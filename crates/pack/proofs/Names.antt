@@ -1,9 +1,10 @@
 -- Names that are apart. Assumes nothing.
-use Rattle.std.proofs.Common.{◌≡◌, ℕ, Bool, true, false, ◌||◌, List, [], ◌∷◌, ◌++◌, sym, refl, ap, ◌∙◌, rules}
+use Rattle.std.proofs.Common.{◌≡◌, ℕ, false, ◌||◌, List, [], ◌∷◌, ◌++◌, sym, refl, ap, ◌∙◌, rules}
 use Rattle.std.specs.Str.{bytes_eq}
 use Rattle.std.proofs.ByRecursion.{All-push}
 use Rattle.std.proofs.lemmas.Slice.Eq.{bytes_eq-Decides}
 use Rattle.std.proofs.lemmas.Bool.{or_parts, or_from}
+use Rattle.std.proofs.Math.Bool.{or_assoc, or-false}
 use Rattle.store.specs.Runs.{Pair}
 use Rattle.pack.specs.Pack.{Fits, Apart, Sound, named}
 
@@ -11,14 +12,8 @@ pub same_turned : (xs ys : List ℕ) → bytes_eq xs ys ≡ bytes_eq ys xs
 same_turned xs ys = search (rules, bytes_eq-Decides)
 
 pub named_push : (ps : List Pair) (q : Pair) (name : List ℕ) → named (ps ++ (q ∷ [])) name ≡ (named ps name || bytes_eq q.name name)
-named_push [] q name = or_last (bytes_eq q.name name) where
-  or_last : (b : Bool) → (b || false) ≡ b
-  or_last true = refl
-  or_last false = refl
-named_push (p ∷ ps) q name = ap (λ b. bytes_eq p.name name || b) (named_push ps q name) ∙ sym (or_assoc (bytes_eq p.name name) (named ps name) (bytes_eq q.name name)) where
-  or_assoc : (a b c : Bool) → ((a || b) || c) ≡ (a || (b || c))
-  or_assoc true b c = refl
-  or_assoc false b c = refl
+named_push [] q name = or-false (bytes_eq q.name name)
+named_push (p ∷ ps) q name = ap (λ b. bytes_eq p.name name || b) (named_push ps q name) ∙ sym (or_assoc (bytes_eq p.name name) (named ps name) (bytes_eq q.name name))
 
 -- a name that stands in the middle is not among those before it
 pub apart_before : (ps : List Pair) (q : Pair) (qs : List Pair) → Apart (ps ++ (q ∷ qs)) → named ps q.name ≡ false

@@ -1,6 +1,7 @@
 -- The steps of the scan. Assumes nothing.
-use Rattle.std.proofs.Common.{◌≡◌, ℕ, suc, ◌+◌, ◌-◌, ◌<◌, ◌≤◌, Bool, true, false, cond, ◌⊎◌, List, [], ◌∷◌, ◌++◌, length, get_or, take, drop, Some, None, Ok, Err, Option, sym, refl, ap, ◌∙◌, subst, ⊎_elim, arith}
-use Rattle.std.specs.List.{AllByRecursion}
+use Rattle.std.proofs.Common.{◌≡◌, ℕ, suc, ◌+◌, ◌-◌, ◌<◌, ◌≤◌, Bool, true, false, cond, not, ◌⊎◌, List, [], ◌∷◌, ◌++◌, length, get_or, take, drop, Some, None, Ok, Err, Option, sym, refl, ap, ◌∙◌, subst, ⊎_elim, arith}
+use Rattle.std.specs.List.{AllByRecursion, position, position_from}
+use Rattle.std.proofs.lemmas.Iterator.Adapters.{position_from-zero}
 use Rattle.std.specs.Str.{bytes_eq}
 use Rattle.std.proofs.ByRecursion.{All-get_or}
 use Rattle.std.proofs.lemmas.Slice.Eq.{bytes_eq-Decides}
@@ -9,11 +10,17 @@ use Rattle.store.specs.Runs.{Pair}
 use Rattle.pack.specs.Sector.{count_of, name_of, payload_of, unused_sector}
 use Rattle.pack.specs.Pack.{Sound, blocks, named, sectors_in}
 use Rattle.pack.specs.Reader.{State, between, inside, ended, Reading, good, bad, ends, goes_on, part_step, read_from, read_next, read_sectors, step}
-use Rattle.pack.specs.Scan.{any_named, ended_reading, scanned}
+use Rattle.pack.specs.Scan.{is_used, scanned}
+use Rattle.pack.specs.declared.fault.MemoryFault.TheVariants.{BadSector}
 use Rattle.pack.proofs.Bads.{Whole}
-use Rattle.pack.proofs.Named.{any_blocks}
+use Rattle.pack.proofs.Named.{any_blocks, any_named}
 use Rattle.pack.proofs.Reaches.{In, reached_in, reached_more, reached_last, reached_start, length_name}
 use Rattle.pack.proofs.Sectors.{full, ended_by}
+
+-- what is read where only unused sectors may come, from the first used one
+abbrev pub ended_reading : ℕ → Option ℕ → List Pair → ℕ → Reading
+ended_reading at None pairs unused = good pairs unused
+ended_reading at (Some used) pairs unused = bad (at + used)
 
 -- a block may begin at a place
 pub record Between (ss : List (List ℕ)) (at : ℕ) : Type 0 where
@@ -57,8 +64,31 @@ at_unused ss at pairs here = ⊎_elim
     same true e = refl
     same false e = absurd (grind arith)
 
-pub scan_ends : (ss : List (List ℕ)) (at : ℕ) (b : Between ss at) (r : Option ℕ) → (at ≡ length ss) ⊎ ((at < length ss) × (bytes_eq (get_or ss at []) unused_sector ≡ true)) → ((pairs : List Pair) (n : ℕ) → read_from (ended pairs n) at (drop at ss) ≡ ended_reading r pairs (n + (length ss - at))) → read_sectors ss ≡ ended_reading r b.pairs (0 + (length ss - at))
-scan_ends ss at b r here tail = sym b.reads ∙ at_unused ss at b.pairs here ∙ tail b.pairs 0
+-- the first used sector behind them is bad
+ended_from : (at : ℕ) (ss : List (List ℕ)) (k : ℕ) (pairs : List Pair) (n : ℕ) → read_from (ended pairs n) (at + k) ss ≡ ended_reading at (position_from is_used k ss) pairs (n + length ss)
+ended_from at [] k pairs n = ap (good pairs) (omega arith)
+ended_from at (s ∷ ss) k pairs n = by_test (again (ended_from at ss (k + 1) pairs (n + 1))) (bytes_eq s unused_sector) where
+  again : read_from (ended pairs (n + 1)) (at + (k + 1)) ss ≡ ended_reading at (position_from is_used (k + 1) ss) pairs (n + 1 + length ss) → read_from (ended pairs (n + 1)) (at + k + 1) ss ≡ ended_reading at (position_from is_used (k + 1) ss) pairs (n + suc (length ss))
+  again rest =
+      let next : at + k + 1 ≡ at + (k + 1) = omega arith in
+      let count : n + 1 + length ss ≡ n + suc (length ss) = omega arith in
+      ap (λ m. read_from (ended pairs (n + 1)) m ss) next
+      ∙ rest
+      ∙ ap (ended_reading at (position_from is_used (k + 1) ss) pairs) count
+
+  by_test : read_from (ended pairs (n + 1)) (at + k + 1) ss ≡ ended_reading at (position_from is_used (k + 1) ss) pairs (n + suc (length ss)) → (b : Bool) → read_next (cond b (Some (ended pairs (n + 1))) None) (λ after. read_from after (at + k + 1) ss) (at + k) ≡ ended_reading at (cond (not b) (Some k) (position_from is_used (k + 1) ss)) pairs (n + suc (length ss))
+  by_test rest true = rest
+  by_test rest false = refl
+
+pub scan_ends : (ss : List (List ℕ)) (at : ℕ) (b : Between ss at) (r : Option ℕ) → (at ≡ length ss) ⊎ ((at < length ss) × (bytes_eq (get_or ss at []) unused_sector ≡ true)) → r ≡ position is_used (drop at ss) → read_sectors ss ≡ ended_reading at r b.pairs (length (drop at ss))
+scan_ends ss at b r here is =
+    let first : at ≡ at + 0 = omega arith in
+    sym b.reads
+    ∙ at_unused ss at b.pairs here
+    ∙ ap (λ n. read_from (ended b.pairs 0) n (drop at ss)) first
+    ∙ ended_from at (drop at ss) 0 b.pairs 0
+    ∙ ap (λ o. ended_reading at o b.pairs (0 + length (drop at ss))) (sym (is ∙ position_from-zero is_used (drop at ss)))
+    ∙ ap (ended_reading at r b.pairs) (omega arith)
 
 -- the sectors of the blocks are those that were passed
 pub scan_good : (ss : List (List ℕ)) (at : ℕ) (b : Between ss at) → at ≡ length (blocks b.pairs)
@@ -89,18 +119,6 @@ bad_name ss at b within used twice =
     let old : named b.pairs name ≡ true = sym (any_blocks b.pairs name b.sound.fit) ∙ ap (λ xs. any_named xs name) (sym b.is) ∙ twice in
     let none : step (length ss - (at + 1)) (between b.pairs) (get_or ss at []) ≡ None = rw (used, old) in
     sym b.reads ∙ read_by (between b.pairs) ss at None within none
-
--- a part of another name
-pub bad_part_name : (ss : List (List ℕ)) (at : ℕ) (name : List ℕ) (part : ℕ) → Inside ss at name part → bytes_eq (name_of (get_or ss at [])) name ≡ false → read_sectors ss ≡ bad at
-bad_part_name ss at name part i other =
-    let none : step (length ss - (at + 1)) (inside i.pairs name part i.bytes) (get_or ss at []) ≡ None = rw other in
-    sym i.reads ∙ read_by (inside i.pairs name part i.bytes) ss at None i.within none
-
--- no part that may stand there
-pub bad_part : (ss : List (List ℕ)) (at : ℕ) (name : List ℕ) (part : ℕ) → Inside ss at name part → goes_on (length ss - (at + 1)) part (get_or ss at []) ≡ false → ends part (get_or ss at []) ≡ false → bytes_eq (name_of (get_or ss at [])) name ≡ true → read_sectors ss ≡ bad at
-bad_part ss at name part i stops never same =
-    let none : step (length ss - (at + 1)) (inside i.pairs name part i.bytes) (get_or ss at []) ≡ None = rw (same, stops, never) in
-    sym i.reads ∙ read_by (inside i.pairs name part i.bytes) ss at None i.within none
 
 pub inside_more : (ss : List (List ℕ)) (at : ℕ) (name : List ℕ) (part : ℕ) → AllByRecursion Whole ss → Inside ss at name part → bytes_eq (name_of (get_or ss at [])) name ≡ true → goes_on (length ss - (at + 1)) part (get_or ss at []) ≡ true → Inside ss (at + 1) name (part + 1)
 inside_more ss at name part whole i same more =
@@ -146,23 +164,8 @@ inside_last ss at name part whole i same stops over =
         let next : step (length ss - (at + 1)) (inside i.pairs name part i.bytes) s ≡ Some (between pairs) = rw (same, stops, over) in
         sym (read_by (inside i.pairs name part i.bytes) ss at (Some (between pairs)) i.within next)
 
--- one unused sector
-pub ended_more : (ss : List (List ℕ)) (at : ℕ) (pairs : List Pair) (n : ℕ) → at < length ss → bytes_eq (get_or ss at []) unused_sector ≡ true → read_from (ended pairs n) at (drop at ss) ≡ read_from (ended pairs (n + 1)) (at + 1) (drop (at + 1) ss)
-ended_more ss at pairs n within unused =
-    let next : step (length ss - (at + 1)) (ended pairs n) (get_or ss at []) ≡ Some (ended pairs (n + 1)) = rw unused in
-    read_by (ended pairs n) ss at (Some (ended pairs (n + 1))) within next
-
--- a used one behind it
-pub ended_bad : (ss : List (List ℕ)) (at : ℕ) (pairs : List Pair) (n : ℕ) → at < length ss → bytes_eq (get_or ss at []) unused_sector ≡ false → read_from (ended pairs n) at (drop at ss) ≡ bad at
-ended_bad ss at pairs n within used =
-    let none : step (length ss - (at + 1)) (ended pairs n) (get_or ss at []) ≡ None = rw used in
-    read_by (ended pairs n) ss at None within none
-
-pub ended_all : (ss : List (List ℕ)) (at : ℕ) (pairs : List Pair) (n : ℕ) → length ss ≤ at → read_from (ended pairs n) at (drop at ss) ≡ good pairs n
-ended_all ss at pairs n past = at_drop_all (read_from (ended pairs n) at) ss at past
-
 -- the answers of the scan, over the sectors of memory
-pub told_bad : (ss : List (List ℕ)) (m : List ℕ) (at : ℕ) → ss ≡ sectors_in m → read_sectors ss ≡ bad at → Err at ≡ scanned (read_sectors (sectors_in m))
+pub told_bad : (ss : List (List ℕ)) (m : List ℕ) (at : ℕ) → ss ≡ sectors_in m → read_sectors ss ≡ bad at → Err (BadSector at) ≡ scanned (read_sectors (sectors_in m))
 told_bad ss m at is found = sym (ap (λ xs. scanned (read_sectors xs)) (sym is) ∙ ap scanned found)
 
 pub told_good : (ss : List (List ℕ)) (m : List ℕ) (at : ℕ) (pairs : List Pair) (unused : ℕ) → ss ≡ sectors_in m → read_sectors ss ≡ good pairs unused → at ≡ length (blocks pairs) → Ok at ≡ scanned (read_sectors (sectors_in m))

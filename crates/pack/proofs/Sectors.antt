@@ -1,9 +1,9 @@
 -- What stands in the sector of a part. Assumes nothing.
-use Rattle.std.proofs.Common.{◌≡◌, ℕ, ◌+◌, ◌-◌, ◌*◌, ◌<◌, ◌≤◌, Bool, true, false, cond, ◌&&◌, eqb, ltb, leb, List, ◌++◌, length, get_or, take, drop, sym, refl, ap, ◌∙◌, arith}
+use Rattle.std.proofs.Common.{◌≡◌, ℕ, ◌+◌, ◌-◌, ◌*◌, ◌<◌, ◌≤◌, Bool, true, false, ◌&&◌, ltb, leb, List, ◌++◌, length, get_or, take, drop, sym, refl, ap, ◌∙◌, arith}
 use Rattle.std.specs.Str.{bytes_eq}
 use Rattle.std.proofs.lemmas.Slice.Eq.{bytes_eq-Decides}
 use Rattle.std.proofs.lemmas.List.{append_assoc, drop_at, drop-drop, length-append, length-replicate, take_at}
-use Rattle.std.proofs.lemmas.Bool.{and_from, and_parts, and_right, eqb-false, leb-true, le-leb, le-ltb, lt-leb, lt-ltb, ltb-true, ne_eqb}
+use Rattle.std.proofs.lemmas.Bool.{and_from, and_parts, and_right, leb-true, le-leb, lt-ltb, ltb-true}
 use Rattle.pack.specs.Sector.{zeros, weighed, four_bytes, body, sector, unused_sector, more_follows, last, name_of, count_of, payload_of}
 use Rattle.pack.specs.Reader.{fewest, goes_on, ends}
 
@@ -141,47 +141,3 @@ ended_by part s e =
       room = leb-true (part * 468 + count_of s) 10752 b.0;
       some = leb-true (fewest part) (count_of s) d.0;
     }
-
--- what the tests of a part come to, one after the other
-pub goes_on_far : (left part : ℕ) (s : List ℕ) → 10752 ≤ (part + 1) * 468 → goes_on left part s ≡ false
-unfolding goes_on
-goes_on_far left part s far = ap (λ t. t && (ltb 0 left && bytes_eq s (sector more_follows part (name_of s) (payload_of 468 s)))) (le-ltb ((part + 1) * 468) 10752 far)
-
-pub goes_on_end : (left part : ℕ) (s : List ℕ) → left ≡ 0 → goes_on left part s ≡ false
-unfolding goes_on
-goes_on_end left part s none =
-    let test = bytes_eq s (sector more_follows part (name_of s) (payload_of 468 s)) in
-    and_right (ltb ((part + 1) * 468) 10752) (ltb 0 left && test) (ap (λ t. t && test) (le-ltb 0 left (omega arith)))
-
-pub goes_on_by : (left part : ℕ) (s : List ℕ) → (part + 1) * 468 < 10752 → 0 < left → goes_on left part s ≡ bytes_eq s (sector more_follows part (name_of s) (payload_of 468 s))
-unfolding goes_on
-goes_on_by left part s room more = rw (lt-ltb ((part + 1) * 468) 10752 room, lt-ltb 0 left more)
-
-pub ends_long : (part : ℕ) (s : List ℕ) → 468 < count_of s → ends part s ≡ false
-unfolding ends
-ends_long part s long = rw (lt-leb (count_of s) 468 long)
-
-pub ends_far : (part : ℕ) (s : List ℕ) → 10752 < part * 468 + count_of s → ends part s ≡ false
-unfolding ends
-ends_far part s far =
-    let test = leb (fewest part) (count_of s) && bytes_eq s (sector last part (name_of s) (payload_of (count_of s) s)) in
-    and_right (leb (count_of s) 468) (leb (part * 468 + count_of s) 10752 && test) (ap (λ t. t && test) (lt-leb (part * 468 + count_of s) 10752 far))
-
-pub ends_empty : (part : ℕ) (s : List ℕ) → 0 < part → count_of s ≡ 0 → ends part s ≡ false
-unfolding ends
-ends_empty part s behind none =
-    let same = bytes_eq s (sector last part (name_of s) (payload_of (count_of s) s)) in
-    let first = ne_eqb part 0 (λ z. omega arith) in
-    let one : fewest part ≡ 1 = rw first in
-    let few : leb (fewest part) (count_of s) ≡ false = lt-leb (fewest part) (count_of s) (omega arith) in
-    and_right (leb (count_of s) 468) (leb (part * 468 + count_of s) 10752 && (leb (fewest part) (count_of s) && same)) (and_right (leb (part * 468 + count_of s) 10752) (leb (fewest part) (count_of s) && same) (ap (λ t. t && same) few))
-
-pub ends_by : (part : ℕ) (s : List ℕ) → count_of s ≤ 468 → part * 468 + count_of s ≤ 10752 → (0 < part → count_of s ≡ 0 → ⊥) → ends part s ≡ bytes_eq s (sector last part (name_of s) (payload_of (count_of s) s))
-unfolding ends
-ends_by part s short room some =
-    let enough : fewest part ≤ count_of s = by_part (eqb part 0) refl in
-    rw (le-leb (count_of s) 468 short, le-leb (part * 468 + count_of s) 10752 room, le-leb (fewest part) (count_of s) enough)
-  where
-    by_part : (b : Bool) → eqb part 0 ≡ b → cond b 0 1 ≤ count_of s
-    by_part true e = omega arith
-    by_part false e = let behind : 0 < part = omega (arith, eqb-false part 0 e) in let z = some behind in omega arith

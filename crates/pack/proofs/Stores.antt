@@ -1,6 +1,7 @@
 -- What memory means as a store, before and after a block is written. Assumes nothing.
 use Rattle.std.proofs.Common.{◌≡◌, ℕ, ◌+◌, ◌-◌, ◌/◌, ◌%◌, ◌<◌, ◌≤◌, Bool, true, false, cond, ◌&&◌, ◌||◌, eqb, ltb, List, [], ◌∷◌, ◌++◌, length, take, drop, replicate, Some, None, Ok, Err, Option, sym, refl, ap, ◌∙◌, subst, arith, MatchOption}
 use mathlib.Core.Path.{fun_ext}
+use Rattle.std.specs.List.{position}
 use Rattle.std.specs.Str.{bytes_eq}
 use Rattle.std.proofs.lemmas.Slice.Eq.{bytes_eq-Decides}
 use Rattle.std.proofs.lemmas.List.{append_assoc, drop-append-le, drop_at, drop-drop, drop-replicate, length-append, length-replicate, take-append-drop, take_at}
@@ -12,15 +13,15 @@ use Rattle.pack.specs.Lawful.{cost_least, whole_sectors}
 use Rattle.pack.specs.Memory.{held_among, pack_meaning, pairs_read, reading, sectored, used_in, free_in, free_read}
 use Rattle.pack.specs.Pack.{Sound, block_sectors, blocks, full_parts, named, pack_sectors, sector_cost, sectors_in}
 use Rattle.pack.specs.Reader.{Reading, good, bad, read_sectors}
-use Rattle.pack.specs.Scan.{FirstNamed, any_named, scanned}
+use Rattle.pack.specs.Scan.{has_name, scanned}
 use Rattle.pack.specs.Sector.{unused_sector}
-use Rattle.pack.specs.Test.{scan_told, tested}
+use Rattle.pack.specs.Test.{tested}
 use Rattle.pack.specs.declared.fault.MemoryFault.{MemoryFault}
 use Rattle.pack.specs.declared.fault.MemoryFault.TheVariants.{NoSectors}
 use Rattle.pack.proofs.Bads.{read_good}
-use Rattle.pack.proofs.Cuts.{sector-count}
+use Rattle.store.proofs.Chunks.{length_chunked}
 use Rattle.pack.proofs.Founds.{absent, block_parts, find_first}
-use Rattle.pack.proofs.Named.{any_blocks}
+use Rattle.pack.proofs.Named.{FirstNamed, any_blocks, any_named, searched}
 use Rattle.pack.proofs.Names.{same_turned, sound_push}
 use Rattle.pack.proofs.Reaches.{blocks_push}
 use Rattle.pack.proofs.Readings.{block_cut, length_block, read_pack}
@@ -65,7 +66,7 @@ not_held m name none =
     absent ps name (sym (any_blocks ps name k.sound.fit) ∙ ap (λ xs. any_named xs name) (sym k.taken) ∙ none)
 
 -- a sector has it
-pub held_at : (m name : List ℕ) (i : ℕ) → FirstNamed (take (used_in m) (sectors_in m)) name i → Stands (held_among (pairs_read (reading m)) name) (sectors_in m) i
+pub held_at : (m name : List ℕ) (i : ℕ) → FirstNamed (take (used_in m) (sectors_in m)) name i → Stands (held_among (pairs_read (reading m)) name) (drop i (sectors_in m))
 held_at m name i h =
     let k = known m in
     let ps = pairs_read (reading m) in
@@ -81,7 +82,6 @@ held_at m name i h =
     ∙ append_assoc (block_sectors name f.block) f.rest tail in
     let block : block_from (drop i ss) ≡ f.block = ap block_from there ∙ block_parts (full_parts (length f.block)) name 0 f.block (f.rest ++ tail) f.long (block_cut (length f.block) f.short) in
     record {
-      within = omega (arith, first.within, k.room);
       is = f.held ∙ ap Some (sym block);
       short = omega (arith, ap length block, f.short);
     }
@@ -158,9 +158,11 @@ meaning_written m n name block none is =
     λ j. record { held = pairs j; free = units j; cost = sector_cost }
 
 -- what a search in the used sectors finds
-pub looked_up : (m name : List ℕ) (o : Option ℕ) → MatchOption o (any_named (take (used_in m) (sectors_in m)) name ≡ false) (λ i. FirstNamed (take (used_in m) (sectors_in m)) name i) → MatchOption o (held_among (pairs_read (reading m)) name ≡ None) (λ i. Stands (held_among (pairs_read (reading m)) name) (sectors_in m) i)
-looked_up m name None h = not_held m name h
-looked_up m name (Some i) h = held_at m name i h
+pub looked_up : (m name : List ℕ) (o : Option ℕ) → o ≡ position (has_name name) (take (used_in m) (sectors_in m)) → MatchOption o (held_among (pairs_read (reading m)) name ≡ None) (λ i. Stands (held_among (pairs_read (reading m)) name) (drop i (sectors_in m)))
+looked_up m name o is = by o (searched name (take (used_in m) (sectors_in m)) o is) where
+  by : (p : Option ℕ) → MatchOption p (any_named (take (used_in m) (sectors_in m)) name ≡ false) (λ i. FirstNamed (take (used_in m) (sectors_in m)) name i) → MatchOption p (held_among (pairs_read (reading m)) name ≡ None) (λ i. Stands (held_among (pairs_read (reading m)) name) (drop i (sectors_in m)))
+  by None h = not_held m name h
+  by (Some i) h = held_at m name i h
 
 pub used_within : (m : List ℕ) → used_in m ≤ length (sectors_in m)
 used_within m = omega (arith, (known m).room)
@@ -169,7 +171,7 @@ used_within m = omega (arith, (known m).room)
 pub made_good : (m : List ℕ) (used : ℕ) → Ok used ≡ tested m → (used ≡ used_in m) × (length m / 512 - used ≡ free_in m) × (used ≤ length m / 512)
 unfolding reading
 made_good m used e = by_size (sectored m) refl (read_sectors (sectors_in m)) refl e where
-  by_size : (b : Bool) → sectored m ≡ b → (r : Reading) → read_sectors (sectors_in m) ≡ r → Ok used ≡ cond b (scan_told (scanned r)) (Err NoSectors) → (used ≡ used_in m) × (length m / 512 - used ≡ free_in m) × (used ≤ length m / 512)
+  by_size : (b : Bool) → sectored m ≡ b → (r : Reading) → read_sectors (sectors_in m) ≡ r → Ok used ≡ cond b (scanned r) (Err NoSectors) → (used ≡ used_in m) × (length m / 512 - used ≡ free_in m) × (used ≤ length m / 512)
   by_size false w r is i = absurd (grind arith)
   by_size true w (bad s) is i = absurd (grind arith)
   by_size true w (good ps unused) is i =
@@ -178,13 +180,13 @@ made_good m used e = by_size (sectored m) refl (read_sectors (sectors_in m)) ref
       let count : used ≡ length (blocks ps) = cc in
       let u : used_in m ≡ length (blocks ps) = ap (λ r. length (blocks (pairs_read r))) read in
       let f : free_in m ≡ unused = ap free_read read in
-      let size : length m / 512 ≡ length (blocks ps) + unused = sym (sector-count m) ∙ ap length h.is ∙ length-append (blocks ps) (replicate unused unused_sector) ∙ ap (λ k. length (blocks ps) + k) (length-replicate unused unused_sector) in
+      let size : length m / 512 ≡ length (blocks ps) + unused = sym (length_chunked 512 (length m / 512) m) ∙ ap length h.is ∙ length-append (blocks ps) (replicate unused unused_sector) ∙ ap (λ k. length (blocks ps) + k) (length-replicate unused unused_sector) in
       (count ∙ sym u, omega arith, omega arith)
 
 pub made_bad : (m : List ℕ) (fault : MemoryFault) → Err fault ≡ tested m → (0 ≡ used_in m) × (0 ≡ free_in m)
 unfolding reading
 made_bad m fault e = by_size (sectored m) refl (read_sectors (sectors_in m)) refl e where
-  by_size : (b : Bool) → sectored m ≡ b → (r : Reading) → read_sectors (sectors_in m) ≡ r → Err fault ≡ cond b (scan_told (scanned r)) (Err NoSectors) → (0 ≡ used_in m) × (0 ≡ free_in m)
+  by_size : (b : Bool) → sectored m ≡ b → (r : Reading) → read_sectors (sectors_in m) ≡ r → Err fault ≡ cond b (scanned r) (Err NoSectors) → (0 ≡ used_in m) × (0 ≡ free_in m)
   by_size false w r is i =
       let read : reading m ≡ bad 0 = ap (λ b. cond b (read_sectors (sectors_in m)) (bad 0)) w in
       (sym (ap (λ r. length (blocks (pairs_read r))) read), sym (ap free_read read))

@@ -1,6 +1,8 @@
 -- The sectors of a block, written one after the other. Assumes nothing.
-use Rattle.std.proofs.Common.{◌≡◌, ℕ, zero, suc, ◌+◌, ◌-◌, ◌*◌, ◌<◌, ◌≤◌, List, [], ◌∷◌, ◌++◌, length, get_or, take, drop, set, sym, refl, ap, ◌∙◌, arith}
+use Rattle.std.proofs.Common.{◌≡◌, ℕ, zero, suc, ◌+◌, ◌-◌, ◌*◌, ◌/◌, ◌<◌, ◌≤◌, List, [], ◌∷◌, ◌++◌, length, get_or, take, drop, set, sym, refl, ap, ◌∙◌, arith}
 use Rattle.std.proofs.lemmas.List.{append_assoc, drop_more, drop-take, length-append, length-drop, length-take-le, set_at, take-append-drop, take-take}
+use Rattle.std.specs.Simd.{first_chunks}
+use Rattle.store.proofs.Chunks.{getD_chunked, length_chunked}
 use Rattle.pack.specs.Lawful.{cost_least}
 use Rattle.pack.specs.Pack.{block_sectors, parts, sector_cost}
 use Rattle.pack.specs.Sector.{last, more_follows, sector}
@@ -14,11 +16,6 @@ so_far ss place name block part = take place ss ++ (fulls name 0 part (take (par
 length_fulls : (name : List ℕ) (part k : ℕ) (bytes : List ℕ) → length (fulls name part k bytes) ≡ k
 length_fulls name part zero bytes = refl
 length_fulls name part (suc k) bytes = ap suc (length_fulls name (part + 1) k (drop 468 bytes))
-
-pub written_none : (ss : List (List ℕ)) (place : ℕ) (name block : List ℕ) → ss ≡ so_far ss place name block 0
-written_none ss place name block =
-    let here : place ≡ place + 0 = omega arith in
-    sym (take-append-drop place ss) ∙ ap (λ n. take place ss ++ drop n ss) here
 
 -- one sector more
 set_next : (ss : List (List ℕ)) (place : ℕ) (name block w : List ℕ) (part : ℕ) → place + part < length ss → set (so_far ss place name block part) (place + part) w ≡ take place ss ++ ((fulls name 0 part (take (part * 468) block) ++ (w ∷ [])) ++ drop (place + part + 1) ss)
@@ -35,14 +32,13 @@ set_next ss place name block w part within =
     ∙ append_assoc front done (w ∷ rest)
     ∙ ap (λ x. front ++ x) (sym (append_assoc done (w ∷ []) rest))
 
-pub written_more : (ss : List (List ℕ)) (place : ℕ) (name block w : List ℕ) (part : ℕ) → place + part < length ss → (part + 1) * 468 ≤ length block → w ≡ sector more_follows part name (take (part * 468 + 468 - part * 468) (drop (part * 468) block)) → set (so_far ss place name block part) (place + part) w ≡ so_far ss place name block (part + 1)
+pub written_more : (ss : List (List ℕ)) (place : ℕ) (name block w : List ℕ) (part : ℕ) → place + part < length ss → (part + 1) * 468 ≤ length block → w ≡ sector more_follows part name (take 468 (drop (part * 468) block)) → set (so_far ss place name block part) (place + part) w ≡ so_far ss place name block (part + 1)
 written_more ss place name block w part within room is =
     let load = take 468 (drop (part * 468) block) in
     let size : length (take (part * 468) block) ≡ part * 468 = length-take-le (part * 468) block (omega arith) in
     let whole : length load ≡ 468 = length-take-le 468 (drop (part * 468) block) (omega (arith, length-drop (part * 468) block)) in
-    let count : part * 468 + 468 - part * 468 ≡ 468 = omega arith in
     let here : part ≡ 0 + part = omega arith in
-    let w-is : w ≡ sector more_follows (0 + part) name load = is ∙ ap (λ n. sector more_follows part name (take n (drop (part * 468) block))) count ∙ ap (λ p. sector more_follows p name load) here in
+    let w-is : w ≡ sector more_follows (0 + part) name load = is ∙ ap (λ p. sector more_follows p name load) here in
     let bytes : take (part * 468) block ++ load ≡ take ((part + 1) * 468) block = two_cuts (part * 468) 468 block ∙ ap (λ n. take n block) (omega arith) in
     let there : place + part + 1 ≡ place + (part + 1) = omega arith in
     set_next ss place name block w part within
@@ -56,6 +52,23 @@ written_more ss place name block w part within room is =
         ap (λ ys. take a xs ++ ys) (sym (drop-take a b xs))
         ∙ ap (λ ys. ys ++ drop a (take (a + b) xs)) (sym (take-take a (a + b) xs (omega arith)))
         ∙ take-append-drop a (take (a + b) xs)
+
+-- the whole parts of a block, as it is cut
+pub whole_parts : (block : List ℕ) (full : ℕ) (payloads : List (List ℕ)) → full * 468 ≤ length block → payloads ≡ first_chunks 468 (length (take (full * 468) block) / 468) (take (full * 468) block) → length payloads ≡ full
+whole_parts block full payloads within is =
+    ap length is ∙ length_chunked 468 (length (take (full * 468) block) / 468) (take (full * 468) block) ∙ omega (arith, length-take-le (full * 468) block within)
+
+-- and one of them
+pub whole_part : (block : List ℕ) (full part : ℕ) (payloads : List (List ℕ)) → full * 468 ≤ length block → payloads ≡ first_chunks 468 (length (take (full * 468) block) / 468) (take (full * 468) block) → part < full → get_or payloads part [] ≡ take 468 (drop (part * 468) block)
+whole_part block full part payloads within is below =
+    let front = take (full * 468) block in
+    let more : ℕ = full * 468 - part * 468 in
+    let all : full * 468 ≡ part * 468 + more = omega arith in
+    ap (λ xs. get_or xs part []) is
+    ∙ getD_chunked 468 (length front / 468) part front (omega (arith, length-take-le (full * 468) block within))
+    ∙ ap (λ n. take 468 (drop (part * 468) (take n block))) all
+    ∙ ap (take 468) (drop-take (part * 468) more block)
+    ∙ take-take 468 more (drop (part * 468) block) (omega arith)
 
 pub written_last : (ss : List (List ℕ)) (place : ℕ) (name block w : List ℕ) (full : ℕ) → full ≡ sector_cost (length block) - 1 → length block ≤ 10752 → place + sector_cost (length block) ≤ length ss → w ≡ sector last full name (drop (full * 468) block) → set (so_far ss place name block full) (place + full) w ≡ take place ss ++ (block_sectors name block ++ drop (place + sector_cost (length block)) ss)
 written_last ss place name block w full count short room is =

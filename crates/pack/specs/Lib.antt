@@ -1,4 +1,5 @@
 pub mod Sector
+pub mod Part
 pub mod Pack
 pub mod Reader
 pub mod FirstBad
@@ -8,3 +9,4 @@ pub mod Test
 pub mod Block
 pub mod Lawful
 pub mod Put
+pub mod Text

@@ -50,9 +50,5 @@ Judged memory (refused n) = (n ≡ 14) × (Sectored memory → ⊥)
 Judged memory (refused_at n s) = (n ≡ 15) × (Sectored memory × FirstBad (sectors_in memory) s)
 
 -- the sectors that the blocks of a good pack take, or what is wrong
-abbrev pub scan_told : Result ℕ ℕ → Result ℕ MemoryFault
-scan_told (Ok used) = Ok used
-scan_told (Err s) = Err (BadSector s)
-
 abbrev pub tested : List ℕ → Result ℕ MemoryFault
-tested memory = cond (sectored memory) (scan_told (scanned (read_sectors (sectors_in memory)))) (Err NoSectors)
+tested memory = cond (sectored memory) (scanned (read_sectors (sectors_in memory))) (Err NoSectors)

@@ -6,8 +6,8 @@
 
 mod fault;
 mod pack;
+mod part;
 mod read;
-mod room;
 mod scan;
 mod sector;
 mod test;

@@ -4,18 +4,17 @@ ghost use Rattle.pack.specs.Memory.{free_in, used_in};
 
 mod add;
 mod calls;
+mod lookup;
 mod make;
-
-use crate::room::Room;
 
 // Memory of 512-byte sectors, tested when the store is made. Where it is no good pack, no sector is used and none is free.
 #[derive(Drop)]
 pub struct Pack<'a> {
-    room: Room<'a>,
+    memory: &'a mut [u8],
     // The sectors of the blocks, which stand at the start of the memory.
     used: usize,
     // The unused sectors behind them.
     free: usize,
-    ghost filled: { used ≡ used_in room.memory.now },
-    ghost vacant: { free ≡ free_in room.memory.now },
+    ghost filled: { used ≡ used_in memory.now },
+    ghost vacant: { free ≡ free_in memory.now },
 }

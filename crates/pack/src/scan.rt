@@ -1,69 +1,58 @@
 // The scan of a pack: block after block, and part after part.
-ghost use Rattle.std.specs.Prelude.{◌≡◌, ℕ, ◌+◌, ◌-◌, ◌≤◌, false, List, length, drop, MatchOption};
+ghost use Rattle.std.specs.Prelude.{◌≡◌, position};
 ghost use Rattle.std.specs.Str.{bytes_eq};
-ghost use Rattle.store.specs.Runs.{Pair};
 ghost use Rattle.pack.specs.Pack.{sectors_in};
-ghost use Rattle.pack.specs.Reader.{ended, read_from, read_sectors};
-ghost use Rattle.pack.specs.Scan.{any_named, FirstNamed, ended_reading, scanned};
-ghost use Rattle.pack.specs.Sector.{name_of};
+ghost use Rattle.pack.specs.Reader.{read_sectors};
+ghost use Rattle.pack.specs.Scan.{has_name, is_used, scanned};
 
-use crate::sector::{NAME_AT, PAYLOAD_AT, SECTOR_SIZE, ends, goes_on, is_unused};
+use crate::fault::MemoryFault;
+use crate::part::{ends, goes_on};
+use crate::sector::{SECTOR_SIZE, Sector, is_unused, name_in};
+use digest::Digest;
 
 // Whether a sector has this name.
-fn has_name(sector: &[u8; SECTOR_SIZE], name: &[u8]) -> bool
-    ensures { result ≡ bytes_eq (name_of sector.now) name.now }
+fn has_name(sector: &Sector, name: &Digest) -> bool
+    ensures { result ≡ has_name name.now.bytes sector.now }
 {
-    let own: &[u8] = &sector[NAME_AT..PAYLOAD_AT];
-    own == name
+    name_in(sector).bytes == name.bytes
 }
 
 // The first sector that has this name.
-pub(crate) fn first_named(sectors: &[[u8; SECTOR_SIZE]], name: &[u8]) -> Option<usize>
-    ensures { MatchOption result (any_named sectors.now name.now ≡ false) (λ i. FirstNamed sectors.now name.now i) }
+pub(crate) fn first_named(sectors: &[Sector], name: &Digest) -> Option<usize>
+    ensures { result ≡ position (has_name name.now.bytes) sectors.now }
 {
-    for (i, sector) in sectors.iter().enumerate() {
-        if has_name(sector, name) {
-            return Some(i);
-        }
-    }
-    None
+    sectors.iter().position(|sector| has_name(sector, name))
 }
 
-// The first used sector from a place on.
-fn first_used(sectors: &[[u8; SECTOR_SIZE]], from: usize) -> Option<usize>
-    requires { from ≤ length sectors.now }
-    ensures { (pairs : List Pair) (n : ℕ) → read_from (ended pairs n) from (drop from sectors.now) ≡ ended_reading result pairs (n + (length sectors.now - from)) }
+// The first used sector.
+fn first_used(sectors: &[Sector]) -> Option<usize>
+    ensures { result ≡ position is_used sectors.now }
 {
-    for i in from..sectors.len() {
-        if !is_unused(&sectors[i]) {
-            return Some(i);
-        }
-    }
-    None
+    sectors.iter().position(|sector| !is_unused(sector))
 }
 
 // How many sectors the blocks take, or the first bad sector.
-pub(crate) fn scan(memory: &[u8]) -> Result<usize, usize>
+pub(crate) fn scan(memory: &[u8]) -> Result<usize, MemoryFault>
     ensures { result ≡ scanned (read_sectors (sectors_in memory.now)) }
 {
     let (sectors, _) = memory.as_chunks::<SECTOR_SIZE>();
     let count = sectors.len();
     let mut at = 0;
-    let bad = 'scan: loop {
+    let sector = 'scan: loop {
         if at == count || is_unused(&sectors[at]) {
-            match first_used(sectors, at) {
-                Some(used) => break 'scan used,
+            match first_used(&sectors[at..]) {
+                Some(used) => break 'scan at + used,
                 None => return Ok(at),
             }
         }
         let first = at;
-        let name: &[u8] = &sectors[first][NAME_AT..PAYLOAD_AT];
-        if first_named(&sectors[0..first], name).is_some() {
+        let name = name_in(&sectors[first]);
+        if first_named(&sectors[0..first], &name).is_some() {
             break 'scan first;
         }
         let mut part = 0;
         'parts: loop {
-            if !has_name(&sectors[at], name) {
+            if !has_name(&sectors[at], &name) {
                 break 'scan at;
             }
             if goes_on(&sectors[at], part, count - at - 1) {
@@ -78,5 +67,5 @@ pub(crate) fn scan(memory: &[u8]) -> Result<usize, usize>
             break 'parts;
         }
     };
-    Err(bad)
+    Err(MemoryFault::BadSector { sector })
 }

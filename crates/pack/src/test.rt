@@ -13,8 +13,5 @@ pub(crate) fn used_sectors(memory: &[u8]) -> Result<usize, MemoryFault>
     if memory.is_empty() || memory.len() % SECTOR_SIZE != 0 {
         return Err(MemoryFault::NoSectors);
     }
-    match scan(memory) {
-        Ok(used) => Ok(used),
-        Err(sector) => Err(MemoryFault::BadSector { sector }),
-    }
+    scan(memory)
 }

@@ -1,27 +1,50 @@
 // Bytes that are changed.
 ghost use Rattle.std.specs.Prelude.{◌≡◌, length};
 
-// Changes the bits of `mask` in the byte at a place; where there is no such byte, nothing. Changed twice it is as before.
-pub(crate) fn change(memory: &mut [u8], at: usize, mask: u8)
-    ensures { length memory.new ≡ length memory.old }
-{
-    if at < memory.len() {
-        memory[at] ^= mask;
+use crate::sample::SECTOR_SIZE;
+
+// Whether the sum of a damaged sector is put right again.
+#[derive(Clone, Copy, Debug, PartialEq, Eq)]
+pub(crate) enum Sum {
+    AsItWas,
+    PutRight,
+}
+
+// A change to the bits of one byte of a sector.
+#[derive(Clone, Copy, Debug, PartialEq, Eq)]
+pub(crate) struct Damage {
+    pub(crate) sector: usize,
+    pub(crate) byte: usize,
+    pub(crate) mask: u8,
+    pub(crate) sum: Sum,
+}
+
+impl Damage {
+    // Changes the bits; where there is no such byte, nothing. Done twice, the memory is as before.
+    pub(crate) fn toggle(&self, memory: &mut [u8])
+        ensures { length memory.new ≡ length memory.old }
+    {
+        let Some(sector) = memory.chunks_exact_mut(SECTOR_SIZE).nth(self.sector) else {
+            return;
+        };
+        if let Some(byte) = sector.get_mut(self.byte) {
+            *byte ^= self.mask;
+        }
+        if self.sum == Sum::PutRight {
+            mend(sector);
+        }
     }
 }
 
-// Writes the sum of a sector anew: of (offset + 1) × byte over its first 508 bytes, high byte first.
-pub(crate) fn mend(memory: &mut [u8], sector: usize)
-    ensures { length memory.new ≡ length memory.old }
+// Writes the sum of a sector anew: of (offset + 1) × byte over all but its last four bytes, high byte first.
+fn mend(sector: &mut [u8])
+    ensures { length sector.new ≡ length sector.old }
 {
-    if memory.len() / 512 <= sector {
-        return;
+    if let Some((bytes, sum)) = sector.split_last_chunk_mut::<4>() {
+        let weighed = bytes
+            .iter()
+            .zip(1u32..)
+            .map(|(byte, weight)| weight.wrapping_mul(u32::from(*byte)));
+        *sum = weighed.fold(0, u32::wrapping_add).to_be_bytes();
     }
-    let start = sector * 512;
-    let mut sum: u32 = 0;
-    for offset in 0..508 {
-        let term = (offset as u32 + 1).wrapping_mul(u32::from(memory[start + offset]));
-        sum = sum.wrapping_add(term);
-    }
-    memory[start + 508..start + 512].copy_from_slice(&sum.to_be_bytes());
 }

@@ -2,7 +2,7 @@
 // model of its own computed.
 //
 //   sample   the pack to damage
-//   damage   a byte that is changed, and the sum that is put right again
+//   damage   a change to a byte, and to the sum that is put right again or not
 //   lines    what the test and the store answer
 #![tactic(auto)]
 
@@ -10,7 +10,7 @@ mod damage;
 mod lines;
 mod sample;
 
-use anyhow::anyhow;
+use anyhow::Context;
 use lines::{damage_lines, pack_lines, size_lines};
 use sample::{SAMPLE_SIZE, fill};
 
@@ -22,9 +22,7 @@ fn run(rt: &HostRuntime) -> anyhow::Result<()> {
     size_lines(rt)?;
     let mut memory = vec![in rt.alloc(); 0u8; SAMPLE_SIZE]?;
     let memory = memory.as_mut_slice();
-    if !fill(memory) {
-        return Err(anyhow!("the sample was refused"));
-    }
+    fill(memory).context("the sample was not taken")?;
     pack_lines(rt, memory)?;
     damage_lines(rt, memory)
 }

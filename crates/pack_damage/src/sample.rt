@@ -1,11 +1,13 @@
 // A pack of three blocks, of 0, 468 and 469 bytes, and of two unused sectors.
 use digest::Digest;
 use pack::Pack;
-use store::Store;
+use store::{Fault, Store};
 
 pub(crate) const SECTORS: usize = 6;
 
-pub(crate) const SAMPLE_SIZE: usize = 3072;
+pub(crate) const SECTOR_SIZE: usize = 512;
+
+pub(crate) const SAMPLE_SIZE: usize = SECTORS * SECTOR_SIZE;
 
 // The names of the blocks are 32 times one of these bytes.
 pub(crate) const NAMES: [u8; 3] = [0x11, 0x22, 0x33];
@@ -14,10 +16,10 @@ pub(crate) fn name_of(byte: u8) -> Digest {
     Digest { bytes: [byte; 32] }
 }
 
-// Puts the three blocks into memory of zeros, and answers whether all were accepted.
-pub(crate) fn fill(memory: &mut [u8]) -> bool {
+// Puts the three blocks into memory of zeros.
+pub(crate) fn fill(memory: &mut [u8]) -> Result<(), Fault> {
     let mut pack = Pack::new(memory);
-    pack.put(&name_of(0x11), &[]).is_ok()
-        && pack.put(&name_of(0x22), &[0xAA; 468]).is_ok()
-        && pack.put(&name_of(0x33), &[0xBB; 469]).is_ok()
+    pack.put(&name_of(0x11), &[])?;
+    pack.put(&name_of(0x22), &[0xAA; 468])?;
+    pack.put(&name_of(0x33), &[0xBB; 469])
 }

@@ -1,7 +1,8 @@
 -- Memory that is cut into pieces of one size: where a piece stands, and that writing one leaves the others. Kinds of store that live in lent
 -- memory cite this. Assumes nothing.
-use Rattle.std.proofs.Common.{◌≡◌, ℕ, zero, suc, ◌+◌, ◌*◌, ◌<◌, ◌≤◌, List, [], ◌∷◌, length, get_or, take, drop, set, refl, ap, mul-le-mul_right, suc-mul, zero-mul, arith}
+use Rattle.std.proofs.Common.{◌≡◌, ℕ, zero, suc, ◌+◌, ◌*◌, ◌/◌, ◌<◌, ◌≤◌, List, [], ◌∷◌, length, get_or, take, drop, set, refl, ap, mul-le-mul_right, suc-mul, zero-mul, arith}
 use borrow.Rule.Slice.PartMut.{put_mid}
+use Rattle.std.proofs.Math.Nat.{div-mul-le_self}
 use Rattle.std.specs.Simd.{first_chunks}
 use Rattle.std.proofs.lemmas.List.{drop_at, drop-append-le, drop-drop, drop-take, length-append, length-drop, length-take, take_at}
 use Rattle.std.proofs.lemmas.Slice.{take-put_mid_below}
@@ -33,3 +34,11 @@ chunked_put n (suc k) (suc i) m w within room long =
 
 pub length-put : (a k : ℕ) (m w : List ℕ) → a + k ≤ length m → length w ≡ k → length (put_mid a k m w) ≡ length m
 length-put a k m w room long = grind (arith, length-append, length-take, length-drop)
+
+-- a whole piece is written in memory that is cut into as many as it has
+pub piece_written : (n i : ℕ) (m w : List ℕ) → i < length m / n → length w ≡ n → first_chunks n (length (put_mid (i * n) n m w) / n) (put_mid (i * n) n m w) ≡ set (first_chunks n (length m / n) m) i w
+piece_written n i m w within long =
+    let all : length m / n * n ≤ length m = div-mul-le_self (length m) n in
+    let upto : suc i * n ≤ length m / n * n = mul-le-mul_right n (omega arith) in
+    let size = length-put (i * n) n m w (omega (arith, suc-mul i n)) long in
+    rw size (chunked_put n (length m / n) i m w within all long)

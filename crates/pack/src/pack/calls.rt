@@ -8,51 +8,44 @@ ghost use Rattle.pack.specs.Pack.{sectors_in};
 ghost use Rattle.pack.specs.Put.{Kept, put_sectors};
 
 use super::Pack;
-use crate::read::{copy_block, is_block, lookup};
+use crate::read::{copy_block, is_block};
 use crate::write::sectors_for;
 use digest::Digest;
-use store::{BLOCK_LIMIT, Compared, Fault, Store};
+use store::{BLOCK_LIMIT, Compared, Fault, Store, admit};
 
 impl Store for Pack<'_> {
-    ghost meaning = { λ s. pack_meaning s.room.memory.now };
+    ghost meaning = { λ s. pack_meaning s.memory.now };
 
-    ghost lawful = { λ s. pack_lawful s.room.memory.now };
+    ghost lawful = { λ s. pack_lawful s.memory.now };
 
     fn find(&self, name: &Digest, out: &mut [u8]) -> Result<Option<usize>, Fault> {
         if out.len() < BLOCK_LIMIT {
             return Err(Fault::BufferTooShort);
         }
-        let Some(place) = lookup(self.room.memory, self.used, name) else {
+        let Some(sectors) = self.lookup(name) else {
             return Ok(None);
         };
-        Ok(Some(copy_block(self.room.memory, place, out)))
+        Ok(Some(copy_block(sectors, out)))
     }
 
     fn compare(&self, name: &Digest, block: &[u8]) -> Compared {
-        let Some(place) = lookup(self.room.memory, self.used, name) else {
-            return Compared::Absent;
-        };
-        if is_block(self.room.memory, place, block) {
-            Compared::Same
-        } else {
-            Compared::Other
+        match self.lookup(name) {
+            None => Compared::Absent,
+            Some(sectors) if is_block(sectors, block) => Compared::Same,
+            Some(_) => Compared::Other,
         }
     }
 
     // Of the sectors, a pair that is added changes those of its block, which are the first unused ones, and no others.
     fn put(&mut self, name: &Digest, block: &[u8]) -> Result<(), Fault>
-        ensures answer { told result ≡ put_answer (pack_meaning self.old.room.memory.now) name.now.bytes block.now }
-        ensures after { pack_meaning self.new.room.memory.now ≡ put_after (pack_meaning self.old.room.memory.now) name.now.bytes block.now }
-        ensures sectors { sectors_in self.new.room.memory.now ≡ put_sectors self.old.room.memory.now name.now.bytes block.now }
-        ensures kept { Kept (outcome (pack_meaning self.old.room.memory.now) name.now.bytes block.now) self.old.room.memory.now self.new.room.memory.now }
+        ensures answer { told result ≡ put_answer (pack_meaning self.old.memory.now) name.now.bytes block.now }
+        ensures after { pack_meaning self.new.memory.now ≡ put_after (pack_meaning self.old.memory.now) name.now.bytes block.now }
+        ensures sectors { sectors_in self.new.memory.now ≡ put_sectors self.old.memory.now name.now.bytes block.now }
+        ensures kept { Kept (outcome (pack_meaning self.old.memory.now) name.now.bytes block.now) self.old.memory.now self.new.memory.now }
     {
-        if block.len() > BLOCK_LIMIT {
-            return Err(Fault::BlockTooLong);
-        }
-        match self.compare(name, block) {
-            Compared::Same => Ok(()),
-            Compared::Other => Err(Fault::Conflict),
-            Compared::Absent => self.add(name, block),
+        match admit(block, self.compare(name, block))? {
+            Some(block) => self.add(name, block),
+            None => Ok(()),
         }
     }
 

@@ -8,7 +8,6 @@ ghost use Rattle.pack.specs.Test.{Judged, memory_told, verdict};
 
 use super::Pack;
 use crate::fault::MemoryFault;
-use crate::room::Room;
 use crate::sector::SECTOR_SIZE;
 use crate::test::used_sectors;
 
@@ -20,32 +19,19 @@ impl<'a> Pack<'a> {
         ensures judged { Judged memory.now (memory_told result) }
         ensures read_back { (pairs : List Pair) (unused : ℕ) → Sound pairs → read_sectors (pack_sectors pairs unused) ≡ good pairs unused }
     {
-        match used_sectors(memory) {
-            Ok(_) => Ok(()),
-            Err(fault) => Err(fault),
-        }
+        used_sectors(memory)?;
+        Ok(())
     }
 
     // The store over this memory, which stays as it is. Its pairs are sound: no name is there twice.
     pub fn new(memory: &'a mut [u8]) -> Pack<'a>
-        ensures same { result.room.memory.now ≡ memory.old }
-        ensures sound { Sound (pairs_read (reading result.room.memory.now)) }
+        ensures same { result.memory.now ≡ memory.old }
+        ensures sound { Sound (pairs_read (reading result.memory.now)) }
     {
-        let used = match used_sectors(memory) {
-            Ok(used) => used,
-            Err(_) => {
-                return Pack {
-                    room: Room { memory },
-                    used: 0,
-                    free: 0,
-                };
-            }
+        let (used, free) = match used_sectors(memory) {
+            Ok(used) => (used, memory.len() / SECTOR_SIZE - used),
+            Err(_) => (0, 0),
         };
-        let free = memory.len() / SECTOR_SIZE - used;
-        Pack {
-            room: Room { memory },
-            used,
-            free,
-        }
+        Pack { memory, used, free }
     }
 }

@@ -1,61 +1,51 @@
 -- Part after part is compared.
-use Rattle.std.proofs.Common.{◌≡◌, ◌+◌, ◌-◌, ◌≤◌, [], ◌++◌, length, take, drop, sym, ap, ◌∙◌, arith}
+use Rattle.std.proofs.Common.{◌≡◌, ◌+◌, [], ◌++◌, drop, Some, None, sym, ap, ◌∙◌}
 use Rattle.std.specs.Str.{bytes_eq}
-use Rattle.std.proofs.lemmas.Slice.Eq.{starts_is}
-use Rattle.std.proofs.lemmas.List.{length-drop, take_rest}
-use Rattle.std.proofs.lemmas.Bool.{both_ways}
-use Rattle.pack.specs.Block.{block_from}
-use Rattle.pack.proofs.Blocks.{after, block_here, block_last, block_more, block_none, same_more, same_not, same_none}
-use Rattle.pack.proofs.read.is_block.Goals as goal
+use Rattle.std.proofs.lemmas.Slice.Eq.{strip_prefix_is}
 use Rattle.std.proofs.lemmas.Bool.Decides.{Decides-eqb}
+use Rattle.pack.specs.Block.{block_from}
+use Rattle.pack.proofs.Blocks.{after, block_here, block_last, block_more, block_none, passed, same_none, same_not}
+use Rattle.pack.proofs.read.is_block.Goals as goal
+use Rattle.pack.proofs.read.is_block.Goals.{else-loop-sector-test, then-loop-sector-test+in-Some+then-sector}
 
-pub returns-then-not-starts_with : goal.returns-then-not-starts_with
-returns-then-not-starts_with c =
-    let ss = c.as_chunks.result.0.now in
-    let i = c.loop-i.i in
-    let p = c.payload_in-payload.result.now in
-    let block = c.args.block.now in
-    let rest = take (length block - c.loop-i.at) (drop c.loop-i.at block) in
-    let all : rest ≡ drop c.loop-i.at block = take_rest block c.loop-i.at in
-    let is : block_from (drop i ss) ≡ p ++ after ss i = block_here ss i c.loop-i-test.true ∙ ap (λ x. x ++ after ss i) (sym c.payload_in-payload.ensures.value) in
-    let tells = starts_is Decides-eqb rest p c.starts_with.result c.starts_with.ensures.value in
-    let no = same_not (block_from (drop i ss)) p (after ss i) (drop c.loop-i.at block) is (λ more e. both_ways c.starts_with.result c.if-not-starts_with.true (tells.1 more (all ∙ e))) in
-    sym (ap (λ xs. bytes_eq (block_from (drop c.args.place xs)) block) (sym c.as_chunks.ensures.front) ∙ sym c.loop-i.invariant.1 ∙ no)
+pub returns-in_default : goal.returns-in_default
+returns-in_default c =
+    let ss = c.args.sectors.now in
+    let i = c.loop-sector.sector-index in
+    let rest = c.loop-sector.rest.now in
+    let p = c.payload_in.result.now in
+    let is : block_from (drop i ss) ≡ p ++ after ss i = block_here ss i c.loop-sector-test.true ∙ ap (λ x. x ++ after ss i) (sym c.payload_in.ensures.value) in
+    let other = strip_prefix_is Decides-eqb rest p None c.in_default.ensures.cases in
+    sym (sym c.loop-sector.invariant ∙ same_not (block_from (drop i ss)) p (after ss i) rest is other)
 
-pub returns-then-sectors-i-ne-MORE_FOLLOWS : goal.returns-then-sectors-i-ne-MORE_FOLLOWS
-returns-then-sectors-i-ne-MORE_FOLLOWS c =
-    let ss = c.as_chunks.result.0.now in
-    let i = c.loop-i.i in
-    let at = c.loop-i.at in
-    let p = c.payload_in-payload.result.now in
-    let block = c.args.block.now in
-    let rest = take (length block - at) (drop at block) in
-    let all : rest ≡ drop at block = take_rest block at in
-    let is : block_from (drop i ss) ≡ p ++ [] = block_last ss i c.loop-i-test.true c.if-sectors-i-ne-MORE_FOLLOWS.true ∙ ap (λ x. x ++ []) (sym c.payload_in-payload.ensures.value) in
-    let starts = (starts_is Decides-eqb rest p c.starts_with.result c.starts_with.ensures.value).0 c.if-not-starts_with.false in
-    let same : drop at block ≡ p ++ drop (length p) (drop at block) = sym all ∙ starts ∙ ap (λ x. p ++ drop (length p) x) all in
-    let room : at + length p ≤ length block = omega (arith, c.loop-i.invariant.0, c.starts_with.ensures.bound c.if-not-starts_with.false, ap length all, length-drop at block) in
-    sym (ap (λ xs. bytes_eq (block_from (drop c.args.place xs)) block) (sym c.as_chunks.ensures.front) ∙ sym c.loop-i.invariant.1 ∙ same_more (block_from (drop i ss)) p [] block at is same ∙ same_none block (at + length p) room)
-
-pub loop-i-preserved : goal.loop-i-preserved
-loop-i-preserved c =
-    let ss = c.as_chunks.result.0.now in
-    let i = c.loop-i.i in
-    let at = c.loop-i.at in
-    let p = c.payload_in-payload.result.now in
-    let block = c.args.block.now in
+pub loop-sector-preserved : goal.loop-sector-preserved
+loop-sector-preserved c =
+    let ss = c.args.sectors.now in
+    let i = c.loop-sector.sector-index in
+    let rest = c.loop-sector.rest.now in
+    let p = c.payload_in.result.now in
     let more = block_from (drop (i + 1) ss) in
-    let rest = take (length block - at) (drop at block) in
-    let all : rest ≡ drop at block = take_rest block at in
-    let is : block_from (drop i ss) ≡ p ++ more = block_more ss i c.loop-i-test.true c.if-sectors-i-ne-MORE_FOLLOWS.false ∙ ap (λ x. x ++ more) (sym c.payload_in-payload.ensures.value) in
-    let starts = (starts_is Decides-eqb rest p c.starts_with.result c.starts_with.ensures.value).0 c.if-not-starts_with.false in
-    let same : drop at block ≡ p ++ drop (length p) (drop at block) = sym all ∙ starts ∙ ap (λ x. p ++ drop (length p) x) all in
-    let room : at + length p ≤ length block = omega (arith, c.loop-i.invariant.0, c.starts_with.ensures.bound c.if-not-starts_with.false, ap length all, length-drop at block) in
-    (room, sym (same_more (block_from (drop i ss)) p more block at is same) ∙ c.loop-i.invariant.1)
+    let is : block_from (drop i ss) ≡ p ++ more = block_more ss i c.loop-sector-test.true c.if-sector.false ∙ ap (λ x. x ++ more) (sym c.payload_in.ensures.value) in
+    let starts = strip_prefix_is Decides-eqb rest p (Some c.in-Some.behind) c.in-Some.ensures.cases in
+    sym (passed (block_from (drop i ss)) p more rest c.in-Some.behind.now is starts) ∙ c.loop-sector.invariant
 
 pub returns : goal.returns
 returns c =
-    let ss = c.as_chunks.result.0.now in
-    let block = c.args.block.now in
-    let none : block_from (drop c.loop-i.i ss) ≡ [] = block_none ss c.loop-i.i c.loop-i-test.false in
-    sym (ap (λ xs. bytes_eq (block_from (drop c.args.place xs)) block) (sym c.as_chunks.ensures.front) ∙ sym c.loop-i.invariant.1 ∙ ap (λ x. bytes_eq x (drop c.loop-i.at block)) none ∙ same_none block c.loop-i.at c.loop-i.invariant.0)
+    let ss = c.args.sectors.now in
+    let i = c.loop-sector.sector-index in
+    let rest = c.loop-sector.rest.now in
+    c.is_empty.ensures
+    ∙ same_none c.loop-sector-test.rest.now
+    ∙ elim c.loop-sector-test.branch [
+      | else-loop-sector-test w ↦
+          ap (λ r. bytes_eq [] r.now) w.rest-is
+          ∙ ap (λ b. bytes_eq b rest) (sym (block_none ss i w.loop-sector-test.false))
+          ∙ c.loop-sector.invariant
+      | then-loop-sector-test+in-Some+then-sector w ↦
+          let p = w.payload_in.result.now in
+          let is : block_from (drop i ss) ≡ p ++ [] = block_last ss i w.loop-sector-test.true w.if-sector.true ∙ ap (λ x. x ++ []) (sym w.payload_in.ensures.value) in
+          let starts = strip_prefix_is Decides-eqb rest p (Some w.in-Some.behind) w.in-Some.ensures.cases in
+          ap (λ r. bytes_eq [] r.now) w.rest-is
+          ∙ sym (passed (block_from (drop i ss)) p [] rest w.in-Some.behind.now is starts)
+          ∙ c.loop-sector.invariant
+    ]

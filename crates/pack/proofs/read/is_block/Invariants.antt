@@ -1,7 +1,7 @@
-use Rattle.std.proofs.Common.{◌≡◌, ◌≤◌, length, drop}
+use Rattle.std.proofs.Common.{◌≡◌, drop}
 use Rattle.std.specs.Str.{bytes_eq}
 use Rattle.pack.specs.Block.{block_from}
 use Rattle.pack.proofs.read.is_block.Given as goal
 
-abbrev pub invariant-loop-i : goal.invariant-loop-i
-invariant-loop-i l = (l.at ≤ length l.block) × (bytes_eq (block_from (drop l.i l.sectors)) (drop l.at l.block) ≡ bytes_eq (block_from (drop l.place l.sectors)) l.block)
+abbrev pub invariant-loop-sector : goal.invariant-loop-sector
+invariant-loop-sector l = bytes_eq (block_from (drop l.sector-index l.sectors)) l.rest ≡ bytes_eq (block_from l.sectors) l.block

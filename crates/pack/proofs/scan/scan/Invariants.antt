@@ -3,7 +3,7 @@ use Rattle.pack.proofs.Scans.{Between, Inside}
 use Rattle.pack.proofs.scan.scan.Given as goal
 
 abbrev pub invariant-parts : goal.invariant-parts
-invariant-parts l = (l.first ≤ l.at) × Inside l.sectors l.at l.name l.part
+invariant-parts l = (l.first ≤ l.at) × Inside l.sectors l.at l.name.bytes l.part
 
 abbrev pub decreases-parts : goal.decreases-parts
 decreases-parts l = length l.sectors - l.at

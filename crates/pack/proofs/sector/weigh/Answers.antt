@@ -1,22 +1,25 @@
 -- What was summed and what is left make up all.
-use Rattle.std.proofs.Common.{◌≡◌, ◌+◌, ◌*◌, ◌<◌, ◌≤◌, get_or, ap, arith}
-use Rattle.pack.proofs.Walks.{term_bound, weighed_more, weighed_all}
+use Rattle.std.proofs.Common.{◌≡◌, suc, ◌+◌, ◌*◌, ◌<◌, ◌≤◌, length, get_or, ap, subst, arith}
+use Rattle.pack.specs.Sector.{weighed}
+use Rattle.pack.proofs.Walks.{term_bound}
 use Rattle.pack.proofs.sector.weigh.Goals as goal
 
-bounded : (c : goal.After-from) → c.loop-i.sum + (c.loop-i.i + 1) * c.from.result ≤ (c.loop-i.i + 1) * 129540
+bounded : (c : goal.After-from) → (c.in-Some.weight ≤ 508) × (c.loop-byte.sum + c.in-Some.weight * c.from.result ≤ (c.in-Some.weight + 1) * 129540)
 bounded c =
-    let byte : get_or c.args.bytes.now c.loop-i.i 0 < 256 = (c.type_inv.bytes c.loop-i.i).fits in
-    let small : c.from.result < 256 = omega (arith, c.from.ensures) in
-    term_bound c.loop-i.sum c.loop-i.i c.from.result c.loop-i.invariant.0 (omega (arith, c.requires, c.loop-i-test.true)) small
+    let steps = c.in-Some.ensures.steps in
+    let byte : c.in-Some.byte.now < 256 = subst (λ xs. get_or xs 0 0 < 256) steps.0 (c.loop-byte.invariant.3 0) in
+    let weight : c.in-Some.weight ≤ 508 = omega (arith, steps.1.0, ap length steps.0, c.loop-byte.invariant.0, c.requires) in
+    (weight, term_bound c.loop-byte.sum c.in-Some.weight c.from.result (omega (arith, c.loop-byte.invariant.1, steps.1.0)) weight (omega (arith, byte, c.from.ensures)))
 
-pub overflow_add-sum-in-loop-i : goal.overflow_add-sum-in-loop-i
-overflow_add-sum-in-loop-i c = omega (arith, bounded c, c.requires, c.loop-i-test.true)
-
-pub loop-i-preserved : goal.loop-i-preserved
-loop-i-preserved c =
-    let i = c.loop-i.i in
-    let term : (i + 1) * c.from.result ≡ (i + 1) * get_or c.args.bytes.now i 0 = ap (λ b. (i + 1) * b) c.from.ensures in
-    (bounded c, omega (arith, term, weighed_more c.args.bytes.now i c.loop-i-test.true, c.loop-i.invariant.1))
-
-pub returns : goal.returns
-returns c = omega (arith, weighed_all c.args.bytes.now c.loop-i.i c.loop-i-test.false)
+pub loop-byte-preserved : goal.loop-byte-preserved
+loop-byte-preserved c =
+    let steps = c.in-Some.ensures.steps in
+    let sum = c.loop-byte.sum in
+    let all = ap (weighed c.loop-byte.byte-iterator.b.start) steps.0 in
+    let here : c.loop-byte.byte-iterator.b.start * c.in-Some.byte.now ≡ c.in-Some.weight * c.from.result = grind (arith, steps.1.0, c.from.ensures) in
+    let next : weighed c.next.new.self.b.start c.next.new.self.a.rest.now ≡ weighed (c.loop-byte.byte-iterator.b.start + 1) c.next.new.self.a.rest.now = grind (arith, steps.1.0, steps.1.1) in (
+      omega (arith, steps.1.0, steps.1.1, ap length steps.0, c.loop-byte.invariant.0),
+      omega (arith, bounded c, steps.1.1),
+      omega (arith, all, here, next, c.loop-byte.invariant.2),
+      λ k. subst (λ xs. get_or xs (suc k) 0 < 256) steps.0 (c.loop-byte.invariant.3 (suc k)),
+    )

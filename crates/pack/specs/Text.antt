@@ -1,0 +1,18 @@
+-- How refused memory is printed.
+--
+--   memory_fault_text   a refusal, with its number, and the sector where one is named
+--
+-- Assumes nothing.
+use Rattle.std.specs.Prelude.{ℕ, List, [], ◌++◌, codes}
+use Rattle.std.specs.Fmt.{decimal}
+use Rattle.pack.specs.Test.{fault_told, verdict_number}
+use Rattle.pack.specs.declared.fault.MemoryFault.{MemoryFault}
+use Rattle.pack.specs.declared.fault.MemoryFault.TheVariants.{NoSectors, BadSector}
+
+abbrev pub place_text : MemoryFault → List ℕ
+place_text NoSectors = []
+place_text (BadSector s) = codes " at " ++ decimal s
+
+-- in decimal digits
+abbrev pub memory_fault_text : MemoryFault → List ℕ
+memory_fault_text fault = codes "refused " ++ (decimal (verdict_number (fault_told fault)) ++ place_text fault)
