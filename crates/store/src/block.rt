@@ -5,7 +5,7 @@ ghost use Rattle.store.specs.Meaning.{block_limit};
 use crate::fault::Fault;
 
 // The most bytes that a block has.
-pub const BLOCK_LIMIT: usize = 10752;
+pub const BLOCK_LIMIT: usize = digest::BLOCK_LIMIT;
 
 // The bytes of a block.
 #[derive(Clone, Copy, Debug, PartialEq, Eq, Hash)]
