@@ -1,4 +1,5 @@
 -- Walks over the parts of a block. Assumes nothing.
+use Rattle.std.proofs.lemmas.Grind.{common_steps}
 use Rattle.std.proofs.Common.{◌≡◌, ℕ, suc, ◌+◌, ◌-◌, ◌<◌, ◌≤◌, false, cond, ◌&&◌, eqb, List, [], ◌∷◌, ◌++◌, length, get_or, take, drop, sym, refl, ap, ◌∙◌, arith}
 use borrow.Rule.Slice.PartMut.{put_mid}
 use Rattle.std.specs.Str.{bytes_eq}
@@ -15,12 +16,10 @@ pub block_here : (ss : List (List ℕ)) (i : ℕ) → i < length ss → block_fr
 block_here ss i within = at_drop_more block_from ss i [] within
 
 pub block_more : (ss : List (List ℕ)) (i : ℕ) → i < length ss → get_or (get_or ss i []) 0 0 ≡ 1 → block_from (drop i ss) ≡ part_bytes (get_or ss i []) ++ block_from (drop (i + 1) ss)
-block_more ss i within kind =
-    at_drop_more block_from ss i [] within ∙ ap (λ b. part_bytes (get_or ss i []) ++ cond b (block_from (drop (i + 1) ss)) []) (eq-eqb (get_or (get_or ss i []) 0 0) 1 kind)
+block_more ss i within kind = grind (arith, common_steps)
 
 pub block_last : (ss : List (List ℕ)) (i : ℕ) → i < length ss → (get_or (get_or ss i []) 0 0 ≡ 1 → ⊥) → block_from (drop i ss) ≡ part_bytes (get_or ss i []) ++ []
-block_last ss i within kind =
-    at_drop_more block_from ss i [] within ∙ ap (λ b. part_bytes (get_or ss i []) ++ cond b (block_from (drop (i + 1) ss)) []) (ne_eqb (get_or (get_or ss i []) 0 0) 1 kind)
+block_last ss i within kind = grind (arith, common_steps)
 
 pub block_none : (ss : List (List ℕ)) (i : ℕ) → length ss ≤ i → block_from (drop i ss) ≡ []
 block_none ss i past = at_drop_all block_from ss i past

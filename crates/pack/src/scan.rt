@@ -14,7 +14,7 @@ use digest::Digest;
 fn has_name(sector: &Sector, name: &Digest) -> bool
     ensures { result ≡ has_name name.now.bytes sector.now }
 {
-    name_in(sector).bytes == name.bytes
+    name_in(sector) == *name
 }
 
 // The first sector that has this name.
