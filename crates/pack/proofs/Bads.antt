@@ -1,14 +1,14 @@
 -- The reader tells good packs, and the first bad sector of all others. Assumes nothing.
-use Rattle.std.proofs.Common.{◌≡◌, ℕ, zero, suc, ◌+◌, ◌-◌, ◌<◌, ◌≤◌, Bool, true, false, cond, eqb, List, [], ◌∷◌, ◌++◌, length, take, drop, replicate, Some, None, Option, sym, refl, ap, ◌∙◌, subst, arith}
+use Rattle.std.proofs.Common.{◌≡◌, ℕ, zero, suc, ◌+◌, ◌-◌, ◌<◌, ◌≤◌, Bool, true, false, cond, List, [], ◌∷◌, ◌++◌, length, take, drop, replicate, Some, None, Option, sym, refl, ap, ◌∙◌, subst, arith}
 use Rattle.std.specs.List.{AllByRecursion}
 use Rattle.std.specs.Str.{bytes_eq}
 use Rattle.std.proofs.ByRecursion.{All-append, All-take, All-drop}
 use Rattle.std.proofs.lemmas.List.{append_assoc, append-nil, length-append, length-replicate, length-take-le, replicate-append-replicate, take_at}
 use Rattle.store.specs.Runs.{Pair}
 use Rattle.pack.specs.FirstBad.{Agrees, FirstBad}
-use Rattle.pack.specs.Sector.{body, four_bytes, head, last, name_of, count_of, payload_of, sector, unused_sector, weighed, zeros}
+use Rattle.pack.specs.Sector.{body, four_bytes, head, last, name_of, sector, unused_sector, weighed, zeros}
 use Rattle.pack.specs.Pack.{Good, Sound, blocks, named, pack_sectors}
-use Rattle.pack.specs.Reader.{State, between, inside, ended, good, bad, ends, fewest, goes_on, part_step, read_from, read_next, read_sectors, step}
+use Rattle.pack.specs.Reader.{State, between, inside, ended, good, bad, fewest, part_step, read_from, read_next, read_sectors, step}
 use Rattle.pack.proofs.Reaches.{In, Reached, closes, reached_start, step_reached}
 use Rattle.pack.proofs.Readings.{read_pack}
 
@@ -31,10 +31,10 @@ unfolding unused_sector
 bytes_unused = bytes_zeros 512
 
 bytes_four : (n : ℕ) → Bytes (four_bytes n)
-bytes_four n = (omega arith, (omega arith, (omega arith, (omega arith, tt))))
+bytes_four n = grind arith
 
 bytes_head : (kind part count : ℕ) → kind < 256 → Bytes (head kind part count)
-bytes_head kind part count small = (small, (omega arith, (omega arith, (omega arith, (omega arith, (omega arith, (omega arith, (omega arith, tt))))))))
+bytes_head kind part count small = grind arith
 
 -- the sector of a last part of one byte
 bytes_closing : (part : ℕ) (name : List ℕ) → Bytes name → Bytes (sector last part name (0 ∷ []))
@@ -69,10 +69,7 @@ complete_unused left xs pairs n sound is = record {
 }
 
 fewest_one : (n : ℕ) → fewest n ≤ 1
-fewest_one n = at_most (eqb n 0) where
-  at_most : (b : Bool) → cond b 0 1 ≤ 1
-  at_most true = omega arith
-  at_most false = omega arith
+fewest_one n = grind arith
 
 complete_in : (left : ℕ) (xs : List (List ℕ)) (pairs : List Pair) (name : List ℕ) (part : ℕ) (bytes : List ℕ) → Bytes name → In (suc left) xs pairs name part bytes → Completes (suc left) xs
 complete_in left xs pairs name part bytes small h =
@@ -104,24 +101,7 @@ complete (suc left) xs (inside pairs name part bytes) small r = complete_in left
 complete left xs (ended pairs n) small r = complete_unused left xs pairs n r.0 r.1
 
 part_named : (left : ℕ) (pairs : List Pair) (name : List ℕ) (part : ℕ) (bytes s : List ℕ) (after : State) → Bytes name → part_step left pairs name part bytes s ≡ Some after → Named after
-part_named left pairs name part bytes s after small is = by_name (bytes_eq (name_of s) name) is where
-  closed : Option State
-  closed = Some (between (pairs ++ (record { name = name; block = bytes ++ payload_of (count_of s) s } ∷ [])))
-
-  opened : Option State
-  opened = Some (inside pairs name (part + 1) (bytes ++ payload_of 468 s))
-
-  by_end : (b : Bool) → cond b closed None ≡ Some after → Named after
-  by_end true i = let q : between (pairs ++ (record { name = name; block = bytes ++ payload_of (count_of s) s } ∷ [])) ≡ after = cc in subst Named q tt
-  by_end false i = absurd (grind arith)
-
-  by_more : (b : Bool) → cond b opened (cond (ends part s) closed None) ≡ Some after → Named after
-  by_more true i = let q : inside pairs name (part + 1) (bytes ++ payload_of 468 s) ≡ after = cc in subst Named q small
-  by_more false i = by_end (ends part s) i
-
-  by_name : (b : Bool) → cond b (cond (goes_on left part s) opened (cond (ends part s) closed None)) None ≡ Some after → Named after
-  by_name true i = by_more (goes_on left part s) i
-  by_name false i = absurd (grind arith)
+part_named left pairs name part bytes s after small is = grind arith
 
 step-named : (left : ℕ) (state : State) (s : List ℕ) (after : State) → Bytes s → Named state → step left state s ≡ Some after → Named after
 step-named left (between pairs) s after small n is = by_use (bytes_eq s unused_sector) is where

@@ -1,29 +1,28 @@
 -- Walks over the parts of a block. Assumes nothing.
-use Rattle.std.proofs.Common.{◌≡◌, ℕ, suc, ◌+◌, ◌-◌, ◌<◌, ◌≤◌, false, cond, ◌&&◌, eqb, List, [], ◌∷◌, ◌++◌, length, get_or, take, drop, sym, refl, ap, ◌∙◌, arith}
+use Rattle.std.proofs.Common.{Bool, true, false, cond, ◌≡◌, ℕ, suc, ◌+◌, ◌-◌, ◌≤◌, ◌&&◌, eqb, List, [], ◌∷◌, ◌++◌, length, take, drop, sym, refl, ap, ◌∙◌, arith}
 use borrow.Rule.Slice.PartMut.{put_mid}
 use Rattle.std.specs.Str.{bytes_eq}
-use Rattle.std.proofs.lemmas.List.{append_assoc, at_drop_all, at_drop_more, drop_at, drop-drop, drop-take, length-append, length-drop, length-take-le, take_all, take-append-drop, take_at, take-take}
+use Rattle.std.proofs.lemmas.List.{append_assoc, drop_at, drop-drop, drop-take, length-append, length-drop, length-take-le, take_all, take-append-drop, take_at, take-take}
 use Rattle.std.proofs.lemmas.Bool.{eq-eqb, ne_eqb}
+use Rattle.std.specs.Borrow.{Bor}
+use Rattle.std.specs.Prelude.{◌==◌, slice_index, Some}
 use Rattle.pack.specs.Block.{block_from, part_bytes}
+use Rattle.pack.specs.Payloads.{Lends, behind}
+use Rattle.pack.specs.Sector.{more_follows}
+use Rattle.pack.specs.declared.read.Payloads.{Payloads}
 use Rattle.pack.proofs.Sectors.{same_no}
 
--- what follows a part
-abbrev pub after : List (List ℕ) → ℕ → List ℕ
-after ss i = cond (eqb (get_or (get_or ss i []) 0 0) 1) (block_from (drop (i + 1) ss)) []
-
-pub block_here : (ss : List (List ℕ)) (i : ℕ) → i < length ss → block_from (drop i ss) ≡ part_bytes (get_or ss i []) ++ after ss i
-block_here ss i within = at_drop_more block_from ss i [] within
-
-pub block_more : (ss : List (List ℕ)) (i : ℕ) → i < length ss → get_or (get_or ss i []) 0 0 ≡ 1 → block_from (drop i ss) ≡ part_bytes (get_or ss i []) ++ block_from (drop (i + 1) ss)
-block_more ss i within kind =
-    at_drop_more block_from ss i [] within ∙ ap (λ b. part_bytes (get_or ss i []) ++ cond b (block_from (drop (i + 1) ss)) []) (eq-eqb (get_or (get_or ss i []) 0 0) 1 kind)
-
-pub block_last : (ss : List (List ℕ)) (i : ℕ) → i < length ss → (get_or (get_or ss i []) 0 0 ≡ 1 → ⊥) → block_from (drop i ss) ≡ part_bytes (get_or ss i []) ++ []
-block_last ss i within kind =
-    at_drop_more block_from ss i [] within ∙ ap (λ b. part_bytes (get_or ss i []) ++ cond b (block_from (drop (i + 1) ss)) []) (ne_eqb (get_or (get_or ss i []) 0 0) 1 kind)
-
-pub block_none : (ss : List (List ℕ)) (i : ℕ) → length ss ≤ i → block_from (drop i ss) ≡ []
-block_none ss i past = at_drop_all block_from ss i past
+-- a part, and the block that is left behind it
+pub lent : (ps rest : Payloads) (payload : Bor (List ℕ)) → Lends ps (Some payload) rest → block_from ps.sectors.now ≡ payload.now ++ block_from rest.sectors.now
+lent ps rest payload h =
+    ap block_from h.2
+    ∙ left (slice_index h.0 0 == more_follows)
+    ∙ ap (λ p. p ++ block_from (behind h.0 h.1)) (sym h.3)
+    ∙ ap (λ ss. payload.now ++ block_from ss) (sym h.4)
+  where
+    left : (b : Bool) → part_bytes h.0 ++ cond b (block_from h.1) [] ≡ part_bytes h.0 ++ block_from (cond b h.1 [])
+    left true = refl
+    left false = refl
 
 -- a part of the list is next
 pub record Next (b p x : List ℕ) (len : ℕ) : Type 0 where

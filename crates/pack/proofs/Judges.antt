@@ -1,9 +1,8 @@
 -- The verdict on memory is right. Assumes nothing.
-use Rattle.std.proofs.Common.{◌≡◌, ℕ, zero, suc, ◌/◌, ◌%◌, ◌<◌, Bool, true, false, cond, eqb, ltb, List, length, drop, refl, arith}
+use Rattle.std.proofs.Common.{◌≡◌, ℕ, zero, suc, ◌/◌, ◌<◌, Bool, true, false, cond, List, length, drop, refl, arith}
 use Rattle.std.specs.Simd.{first_chunks}
 use Rattle.std.specs.List.{AllByRecursion}
 use Rattle.std.proofs.ByRecursion.{All-drop, All-take}
-use Rattle.std.proofs.lemmas.Bool.{and_from, and_parts, eq-eqb, eqb-true, lt-ltb, ltb-true}
 use Rattle.pack.specs.Lawful.{whole_sectors}
 use Rattle.pack.specs.Memory.{Sectored, sectored}
 use Rattle.pack.specs.Pack.{sectors_in}
@@ -16,12 +15,10 @@ bytes_chunks zero m small = tt
 bytes_chunks (suc k) m small = (All-take (λ b. b < 256) 512 m small, bytes_chunks k (drop 512 m) (All-drop (λ b. b < 256) 512 m small))
 
 is_sectored : (m : List ℕ) → sectored m ≡ true → Sectored m
-is_sectored m e =
-    let parts = and_parts (ltb 0 (length m)) (eqb (length m % 512) 0) e in
-    record { some = ltb-true 0 (length m) parts.0; whole = eqb-true (length m % 512) 0 parts.1 }
+is_sectored m e = grind arith
 
 tells_sectored : (m : List ℕ) → Sectored m → sectored m ≡ true
-tells_sectored m h = and_from (ltb 0 (length m)) (eqb (length m % 512) 0) (lt-ltb 0 (length m) h.some) (eq-eqb (length m % 512) 0 h.whole)
+tells_sectored m h = grind arith
 
 pub judge : (m : List ℕ) → Bytes m → Judged m (verdict m)
 judge m small = by_size (sectored m) refl where

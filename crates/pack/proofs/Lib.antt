@@ -3,7 +3,6 @@ pub mod Names
 pub mod Readings
 pub mod Reaches
 pub mod Bads
-pub mod Walks
 pub mod Named
 pub mod Scans
 pub mod Judges

@@ -1,14 +1,14 @@
 -- The bytes of a sector, written one part after the other. Assumes nothing.
+use Rattle.std.proofs.lemmas.Grind.{common_steps}
 use Rattle.std.proofs.Common.{◌≡◌, ℕ, ◌+◌, ◌-◌, ◌≤◌, List, [], ◌++◌, length, take, drop, sym, refl, ap, ◌∙◌, arith}
 use borrow.Rule.Slice.PartMut.{put_mid}
-use Rattle.std.proofs.lemmas.List.{append_assoc, append-nil, drop_at, drop-drop, drop-replicate, length-append, length-drop, take_at, replicate-append-replicate}
+use Rattle.std.proofs.lemmas.List.{append_assoc, append-nil, drop_at, drop-replicate, length-append, length-drop, take_at, replicate-append-replicate}
 use Rattle.store.proofs.Chunks.{length-put}
 use Rattle.pack.specs.Sector.{body, four_bytes, head, sector, weighed, zeros}
 use Rattle.pack.proofs.Sectors.{length-body}
 
 next_part : (p q s : List ℕ) (n k : ℕ) → length p ≡ n → put_mid n k (p ++ drop n s) q ≡ (p ++ q) ++ drop (n + k) s
-next_part p q s n k long =
-    rw (take_at p (drop n s) n long, drop_at p (drop n s) n long, drop-drop k n s) (sym (append_assoc p q (drop (n + k) s)))
+next_part p q s n k long = grind (arith, common_steps)
 
 drop-zeros : (m n : ℕ) → drop m (zeros n) ≡ zeros (n - m)
 unfolding zeros

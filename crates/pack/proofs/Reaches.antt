@@ -1,9 +1,9 @@
 -- What was read up to a state, and how it can go on to a good pack. Assumes nothing.
-use Rattle.std.proofs.Common.{◌≡◌, ℕ, zero, suc, ◌+◌, ◌-◌, ◌*◌, ◌/◌, ◌<◌, ◌≤◌, Bool, true, false, cond, eqb, List, [], ◌∷◌, ◌++◌, length, take, drop, replicate, Some, None, sym, refl, ap, ◌∙◌, subst, arith}
+use Rattle.std.proofs.lemmas.Grind.{common_steps}
+use Rattle.std.proofs.Common.{◌≡◌, ℕ, zero, suc, ◌+◌, ◌*◌, ◌<◌, ◌≤◌, Bool, true, false, cond, List, [], ◌∷◌, ◌++◌, length, take, drop, Some, None, sym, refl, ap, ◌∙◌, subst, arith}
 use Rattle.std.specs.Str.{bytes_eq}
 use Rattle.std.proofs.lemmas.Slice.Eq.{bytes_eq-Decides}
-use Rattle.std.proofs.lemmas.List.{append_assoc, append-nil, drop-append-le, length-append, length-drop, length-take-le, replicate_more, take_all, take-append-le}
-use Rattle.std.proofs.lemmas.Bool.{eqb-true, eqb-false}
+use Rattle.std.proofs.lemmas.List.{append_assoc, append-nil, drop-append-le, length-append, length-drop, length-take-le, take_all, take-append-le}
 use Rattle.store.specs.Runs.{Pair}
 use Rattle.pack.specs.Sector.{last, more_follows, name_of, count_of, payload_of, sector, unused_sector}
 use Rattle.pack.specs.Pack.{Sound, block_sectors, blocks, full_parts, named, pack_sectors, parts}
@@ -49,13 +49,7 @@ fulls_last (suc k) name part bytes payload long =
 
 -- so many full parts and a last one make a block
 pub counted_parts : (k count : ℕ) → count ≤ 468 → fewest k ≤ count → full_parts (k * 468 + count) ≡ k
-counted_parts k count short some = by_test (eqb (k * 468 + count) 0) refl where
-  by_test : (b : Bool) → eqb (k * 468 + count) 0 ≡ b → cond b 1 ((k * 468 + count + 467) / 468) - 1 ≡ k
-  by_test true e = let none : k * 468 + count ≡ 0 = eqb-true (k * 468 + count) 0 e in omega arith
-  by_test false e = by_part (eqb k 0) refl where
-    by_part : (b : Bool) → eqb k 0 ≡ b → (k * 468 + count + 467) / 468 - 1 ≡ k
-    by_part true f = let first : k ≡ 0 = eqb-true k 0 f in let some' : k * 468 + count ≡ 0 → ⊥ = eqb-false (k * 468 + count) 0 e in omega (arith)
-    by_part false f = let one : fewest k ≡ 1 = rw f in omega (arith, one)
+counted_parts k count short some = grind arith
 
 pub blocks_push : (ps : List Pair) (q : Pair) → blocks (ps ++ (q ∷ [])) ≡ blocks ps ++ block_sectors q.name q.block
 blocks_push [] q = append-nil (block_sectors q.name q.block)
@@ -82,15 +76,7 @@ reached_start left = (record { fit = tt; apart = tt }, refl)
 
 -- where a block begins
 pub reached_in : (left : ℕ) (xs : List (List ℕ)) (pairs : List Pair) (name : List ℕ) → Reached (suc left) xs (between pairs) → length name ≡ 32 → named pairs name ≡ false → In (suc left) xs pairs name 0 []
-reached_in left xs pairs name r long fresh = record {
-  sound = r.0;
-  fresh = fresh;
-  long = long;
-  size = omega arith;
-  room = omega arith;
-  more = omega arith;
-  is = r.1 ∙ sym (append-nil (blocks pairs));
-}
+reached_in left xs pairs name r long fresh = grind (arith, common_steps)
 
 length_payload : (s : List ℕ) (count : ℕ) → length s ≡ 512 → count ≤ 468 → length (payload_of count s) ≡ count
 length_payload s count whole short = length-take-le count (drop 40 s) (omega (arith, length-drop 40 s))
@@ -140,11 +126,7 @@ reached_last left xs pairs name part bytes s h whole same f =
     (c.0, ap (λ t. xs ++ (t ∷ [])) s-is ∙ c.1)
 
 pub reached_unused : (xs : List (List ℕ)) (pairs : List Pair) (n : ℕ) (s : List ℕ) → xs ≡ pack_sectors pairs n → s ≡ unused_sector → xs ++ (s ∷ []) ≡ pack_sectors pairs (n + 1)
-reached_unused xs pairs n s is same =
-    ap (λ ss. ss ++ (s ∷ [])) is
-    ∙ append_assoc (blocks pairs) (replicate n unused_sector) (s ∷ [])
-    ∙ ap (λ t. blocks pairs ++ (replicate n unused_sector ++ (t ∷ []))) same
-    ∙ ap (λ ss. blocks pairs ++ ss) (replicate_more n unused_sector)
+reached_unused xs pairs n s is same = grind (arith, common_steps)
 
 part_reached : (left : ℕ) (xs : List (List ℕ)) (pairs : List Pair) (name : List ℕ) (part : ℕ) (bytes s : List ℕ) (after : State) → In (suc left) xs pairs name part bytes → length s ≡ 512 → part_step left pairs name part bytes s ≡ Some after → Reached left (xs ++ (s ∷ [])) after
 part_reached left xs pairs name part bytes s after h whole is = by_name (bytes_eq (name_of s) name) refl is where

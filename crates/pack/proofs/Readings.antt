@@ -3,11 +3,11 @@ use Rattle.std.proofs.Common.{◌≡◌, ℕ, zero, suc, ◌+◌, ◌-◌, ◌*�
 use Rattle.std.specs.List.{AllByRecursion}
 use Rattle.std.specs.Str.{bytes_eq}
 use Rattle.std.proofs.lemmas.List.{append_assoc, append-nil, length-append, length-drop, length-take-le, take-append-drop}
-use Rattle.std.proofs.lemmas.Bool.{ne_eqb, eqb-true, eqb-false}
+use Rattle.std.proofs.lemmas.Bool.{ne_eqb, eqb-false}
 use Rattle.store.specs.Runs.{Pair}
 use Rattle.pack.specs.Sector.{sector, unused_sector, more_follows, last, name_of, count_of, payload_of}
 use Rattle.pack.specs.Pack.{Fits, Apart, Sound, block_sectors, blocks, full_parts, named, pack_sectors, parts, sector_cost}
-use Rattle.pack.specs.Reader.{State, between, inside, ended, good, fewest, part_step, read_from, read_next, read_sectors, step}
+use Rattle.pack.specs.Reader.{State, between, inside, ended, good, fewest, part_step, read_from, read_sectors, step}
 use Rattle.pack.proofs.Names.{apart_before}
 use Rattle.pack.proofs.Sectors.{ends_yes, goes_on_no, goes_on_yes, same_refl, sector-count, sector_name, sector_payload, used_not_unused}
 
@@ -42,7 +42,7 @@ more_step left pairs name part bytes payload long whole room more =
 
 -- one sector that can stand there
 pub read_one : (state after : State) (at : ℕ) (s : List ℕ) (ss : List (List ℕ)) → step (length ss) state s ≡ Some after → read_from state at (s ∷ ss) ≡ read_from after (at + 1) ss
-read_one state after at s ss is = ap (λ o. read_next o (λ then. read_from then (at + 1) ss) at) is
+read_one state after at s ss is = grind arith
 
 pub read_parts : (k : ℕ) (pairs : List Pair) (name : List ℕ) (part : ℕ) (bytes block : List ℕ) (at : ℕ) (rest : List (List ℕ)) → length name ≡ 32 → Cut part k (length block) → read_from (inside pairs name part bytes) at (parts name part k block ++ rest) ≡ read_from (between (pairs ++ (record { name = name; block = bytes ++ block } ∷ []))) (at + (k + 1)) rest
 read_parts zero pairs name part bytes block at rest long cut =
@@ -73,22 +73,7 @@ read_parts (suc k) pairs name part bytes block at rest long cut =
 
 -- how a block is cut into parts
 pub block_cut : (len : ℕ) → len ≤ 10752 → Cut 0 (full_parts len) len
-block_cut len short = by_test (eqb len 0) refl where
-  by_test : (b : Bool) → eqb len 0 ≡ b → Cut 0 (cond b 1 ((len + 467) / 468) - 1) len
-  by_test true e =
-      let none : len ≡ 0 = eqb-true len 0 e in
-      record { least = omega (arith, none); most = omega (arith, none); room = omega arith }
-  by_test false e =
-      let some : 1 ≤ len = omega (arith, eqb-false len 0 e) in
-      let full : ℕ = (len + 467) / 468 - 1 in
-      let bound : fewest (0 + full) ≤ 1 = fewest_most (0 + full) in
-      record { least = omega arith; most = omega arith; room = omega arith }
-    where
-      fewest_most : (n : ℕ) → fewest n ≤ 1
-      fewest_most n = at_most (eqb n 0) where
-        at_most : (b : Bool) → cond b 0 1 ≤ 1
-        at_most true = omega arith
-        at_most false = omega arith
+block_cut len short = grind arith
 
 pub length_block : (name block : List ℕ) → length (block_sectors name block) ≡ sector_cost (length block)
 length_block name block = length-parts name 0 (full_parts (length block)) block ∙ by_test (eqb (length block) 0) refl where

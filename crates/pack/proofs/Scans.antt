@@ -1,15 +1,16 @@
 -- The steps of the scan. Assumes nothing.
-use Rattle.std.proofs.Common.{◌≡◌, ℕ, suc, ◌+◌, ◌-◌, ◌<◌, ◌≤◌, Bool, true, false, cond, not, ◌⊎◌, List, [], ◌∷◌, ◌++◌, length, get_or, take, drop, Some, None, Ok, Err, Option, sym, refl, ap, ◌∙◌, subst, ⊎_elim, arith}
+use Rattle.std.proofs.lemmas.Grind.{common_steps}
+use Rattle.std.proofs.Common.{◌≡◌, ℕ, suc, ◌+◌, ◌-◌, ◌<◌, ◌≤◌, Bool, true, false, cond, not, ◌⊎◌, List, [], ◌∷◌, ◌++◌, length, get_or, take, drop, Some, None, Ok, Err, Option, sym, refl, ap, ◌∙◌, subst, arith}
 use Rattle.std.specs.List.{AllByRecursion, position, position_from}
 use Rattle.std.proofs.lemmas.Iterator.Adapters.{position_from-zero}
 use Rattle.std.specs.Str.{bytes_eq}
 use Rattle.std.proofs.ByRecursion.{All-get_or}
 use Rattle.std.proofs.lemmas.Slice.Eq.{bytes_eq-Decides}
-use Rattle.std.proofs.lemmas.List.{at_drop_all, at_drop_more, length-drop, length-take-le, take_more}
+use Rattle.std.proofs.lemmas.List.{length-take-le, take_more}
 use Rattle.store.specs.Runs.{Pair}
 use Rattle.pack.specs.Sector.{count_of, name_of, payload_of, unused_sector}
 use Rattle.pack.specs.Pack.{Sound, blocks, named, sectors_in}
-use Rattle.pack.specs.Reader.{State, between, inside, ended, Reading, good, bad, ends, goes_on, part_step, read_from, read_next, read_sectors, step}
+use Rattle.pack.specs.Reader.{State, between, inside, ended, Reading, good, bad, ends, goes_on, read_from, read_next, read_sectors, step}
 use Rattle.pack.specs.Scan.{is_used, scanned}
 use Rattle.pack.specs.declared.fault.MemoryFault.TheVariants.{BadSector}
 use Rattle.pack.proofs.Bads.{Whole}
@@ -40,29 +41,17 @@ pub record Inside (ss : List (List ℕ)) (at : ℕ) (name : List ℕ) (part : �
 
 -- one sector at a place
 pub read_here : (state : State) (ss : List (List ℕ)) (at : ℕ) → at < length ss → read_from state at (drop at ss) ≡ read_next (step (length ss - (at + 1)) state (get_or ss at [])) (λ after. read_from after (at + 1) (drop (at + 1) ss)) at
-read_here state ss at within =
-    at_drop_more (read_from state at) ss at [] within
-    ∙ ap (λ n. read_next (step n state (get_or ss at [])) (λ after. read_from after (at + 1) (drop (at + 1) ss)) at) (length-drop (at + 1) ss)
+read_here state ss at within = grind (arith, common_steps)
 
 read_by : (state : State) (ss : List (List ℕ)) (at : ℕ) (o : Option State) → at < length ss → step (length ss - (at + 1)) state (get_or ss at []) ≡ o → read_from state at (drop at ss) ≡ read_next o (λ after. read_from after (at + 1) (drop (at + 1) ss)) at
-read_by state ss at o within is = read_here state ss at within ∙ ap (λ x. read_next x (λ after. read_from after (at + 1) (drop (at + 1) ss)) at) is
+read_by state ss at o within is = grind (arith, common_steps)
 
 pub between_start : (ss : List (List ℕ)) → Between ss 0
 between_start ss = record { pairs = []; reads = refl; sound = (reached_start 0).0; is = refl; upto = omega arith }
 
 -- unused sectors begin here, or nothing is left
 pub at_unused : (ss : List (List ℕ)) (at : ℕ) (pairs : List Pair) → (at ≡ length ss) ⊎ ((at < length ss) × (bytes_eq (get_or ss at []) unused_sector ≡ true)) → read_from (between pairs) at (drop at ss) ≡ read_from (ended pairs 0) at (drop at ss)
-at_unused ss at pairs here = ⊎_elim
-    (λ e. at_drop_all (read_from (between pairs) at) ss at (omega arith) ∙ sym (at_drop_all (read_from (ended pairs 0) at) ss at (omega arith)))
-    (λ h. read_here (between pairs) ss at h.0 ∙ same (bytes_eq (get_or ss at []) unused_sector) h.1 ∙ sym (read_here (ended pairs 0) ss at h.0))
-    here
-  where
-    rest : State → Reading
-    rest = λ after. read_from after (at + 1) (drop (at + 1) ss)
-
-    same : (b : Bool) → b ≡ true → read_next (cond b (Some (ended pairs 1)) (cond (named pairs (name_of (get_or ss at []))) None (part_step (length ss - (at + 1)) pairs (name_of (get_or ss at [])) 0 [] (get_or ss at [])))) rest at ≡ read_next (cond b (Some (ended pairs (0 + 1))) None) rest at
-    same true e = refl
-    same false e = absurd (grind arith)
+at_unused ss at pairs here = grind (arith, common_steps)
 
 -- the first used sector behind them is bad
 ended_from : (at : ℕ) (ss : List (List ℕ)) (k : ℕ) (pairs : List Pair) (n : ℕ) → read_from (ended pairs n) (at + k) ss ≡ ended_reading at (position_from is_used k ss) pairs (n + length ss)
@@ -166,7 +155,7 @@ inside_last ss at name part whole i same stops over =
 
 -- the answers of the scan, over the sectors of memory
 pub told_bad : (ss : List (List ℕ)) (m : List ℕ) (at : ℕ) → ss ≡ sectors_in m → read_sectors ss ≡ bad at → Err (BadSector at) ≡ scanned (read_sectors (sectors_in m))
-told_bad ss m at is found = sym (ap (λ xs. scanned (read_sectors xs)) (sym is) ∙ ap scanned found)
+told_bad ss m at is found = grind arith
 
 pub told_good : (ss : List (List ℕ)) (m : List ℕ) (at : ℕ) (pairs : List Pair) (unused : ℕ) → ss ≡ sectors_in m → read_sectors ss ≡ good pairs unused → at ≡ length (blocks pairs) → Ok at ≡ scanned (read_sectors (sectors_in m))
-told_good ss m at pairs unused is found size = sym (ap (λ xs. scanned (read_sectors xs)) (sym is) ∙ ap scanned found ∙ ap Ok (sym size))
+told_good ss m at pairs unused is found size = grind arith

@@ -1,9 +1,11 @@
 -- What stands in the sector of a part. Assumes nothing.
-use Rattle.std.proofs.Common.{◌≡◌, ℕ, ◌+◌, ◌-◌, ◌*◌, ◌<◌, ◌≤◌, Bool, true, false, ◌&&◌, ltb, leb, List, ◌++◌, length, get_or, take, drop, sym, refl, ap, ◌∙◌, arith}
+use Rattle.std.proofs.lemmas.Bool.Decides.{nat_tests}
+use Rattle.std.proofs.lemmas.Grind.{common_steps}
+use Rattle.std.proofs.Common.{◌≡◌, ℕ, ◌+◌, ◌-◌, ◌*◌, ◌<◌, ◌≤◌, true, false, ◌&&◌, ltb, leb, List, ◌++◌, length, get_or, take, drop, sym, refl, ap, ◌∙◌, arith}
 use Rattle.std.specs.Str.{bytes_eq}
 use Rattle.std.proofs.lemmas.Slice.Eq.{bytes_eq-Decides}
-use Rattle.std.proofs.lemmas.List.{append_assoc, drop_at, drop-drop, length-append, length-replicate, take_at}
-use Rattle.std.proofs.lemmas.Bool.{and_from, and_parts, and_right, leb-true, le-leb, lt-ltb, ltb-true}
+use Rattle.std.proofs.lemmas.List.{drop_at, drop-drop, length-append, length-replicate, take_at}
+use Rattle.std.proofs.lemmas.Bool.{and_from, and_right, le-leb, lt-ltb}
 use Rattle.pack.specs.Sector.{zeros, weighed, four_bytes, body, sector, unused_sector, more_follows, last, name_of, count_of, payload_of}
 use Rattle.pack.specs.Reader.{fewest, goes_on, ends}
 
@@ -20,10 +22,7 @@ length-body kind part name payload long short =
 -- behind the eight bytes of the head
 past_head : (kind part : ℕ) (name payload : List ℕ) → drop 8 (sector kind part name payload) ≡ name ++ (payload ++ (zeros (468 - length payload) ++ four_bytes (weighed 1 (body kind part name payload))))
 unfolding sector body
-past_head kind part name payload =
-    let sum = four_bytes (weighed 1 (body kind part name payload)) in
-    let zs = zeros (468 - length payload) in
-    append_assoc name (payload ++ zs) sum ∙ ap (λ x. name ++ x) (append_assoc payload zs sum)
+past_head kind part name payload = grind (arith, common_steps)
 
 pub sector_name : (kind part : ℕ) (name payload : List ℕ) → length name ≡ 32 → name_of (sector kind part name payload) ≡ name
 sector_name kind part name payload long =
@@ -54,14 +53,11 @@ same_refl xs = (bytes_eq-Decides xs xs).1 refl
 
 -- bytes that differ are not the same
 pub same_no : (xs ys : List ℕ) → (xs ≡ ys → ⊥) → bytes_eq xs ys ≡ false
-same_no xs ys apart = by_test (bytes_eq xs ys) refl where
-  by_test : (b : Bool) → bytes_eq xs ys ≡ b → b ≡ false
-  by_test true e = absurd (apart ((bytes_eq-Decides xs ys).0 e))
-  by_test false e = refl
+same_no xs ys apart = grind (arith, nat_tests, bytes_eq-Decides)
 
 -- sectors of different kinds differ
 pub kinds_apart : (s t : List ℕ) (j k : ℕ) → get_or s 0 0 ≡ j → get_or t 0 0 ≡ k → (j ≡ k → ⊥) → bytes_eq s t ≡ false
-kinds_apart s t j k first second apart = same_no s t (λ e. apart (sym first ∙ ap (λ x. get_or x 0 0) e ∙ second))
+kinds_apart s t j k first second apart = grind (arith, common_steps)
 
 pub used_not_unused : (kind part : ℕ) (name payload : List ℕ) → 1 ≤ kind → bytes_eq (sector kind part name payload) unused_sector ≡ false
 used_not_unused kind part name payload used =
@@ -109,15 +105,7 @@ pub record Full (left part : ℕ) (s : List ℕ) : Type 0 where
 
 pub full : (left part : ℕ) (s : List ℕ) → goes_on left part s ≡ true → Full left part s
 unfolding goes_on
-full left part s e =
-    let same = bytes_eq s (sector more_follows part (name_of s) (payload_of 468 s)) in
-    let a = and_parts (ltb ((part + 1) * 468) 10752) (ltb 0 left && same) e in
-    let b = and_parts (ltb 0 left) same a.1 in
-    record {
-      is = (bytes_eq-Decides s (sector more_follows part (name_of s) (payload_of 468 s))).0 b.1;
-      room = ltb-true ((part + 1) * 468) 10752 a.0;
-      more = ltb-true 0 left b.0;
-    }
+full left part s e = grind (arith, nat_tests, bytes_eq-Decides)
 
 -- a last part that was read
 pub record Last (part : ℕ) (s : List ℕ) : Type 0 where
@@ -128,16 +116,4 @@ pub record Last (part : ℕ) (s : List ℕ) : Type 0 where
 
 pub ended_by : (part : ℕ) (s : List ℕ) → ends part s ≡ true → Last part s
 unfolding ends
-ended_by part s e =
-    let same = bytes_eq s (sector last part (name_of s) (payload_of (count_of s) s)) in
-    let fits = leb (part * 468 + count_of s) 10752 in
-    let enough = leb (fewest part) (count_of s) in
-    let a = and_parts (leb (count_of s) 468) (fits && (enough && same)) e in
-    let b = and_parts fits (enough && same) a.1 in
-    let d = and_parts enough same b.1 in
-    record {
-      is = (bytes_eq-Decides s (sector last part (name_of s) (payload_of (count_of s) s))).0 d.1;
-      short = leb-true (count_of s) 468 a.0;
-      room = leb-true (part * 468 + count_of s) 10752 b.0;
-      some = leb-true (fewest part) (count_of s) d.0;
-    }
+ended_by part s e = grind (arith, nat_tests, bytes_eq-Decides)

@@ -88,10 +88,7 @@ held_at m name i h =
 
 -- a free sector tells that the pack is good
 pub good_by_room : (m : List ℕ) → 0 < free_in m → reading m ≡ good (pairs_read (reading m)) (free_in m)
-good_by_room m some = by (reading m) some where
-  by : (r : Reading) → 0 < free_read r → r ≡ good (pairs_read r) (free_read r)
-  by (good ps unused) h = refl
-  by (bad s) h = absurd (omega arith)
+good_by_room m some = grind arith
 
 named_absent : (ps : List Pair) (name : List ℕ) → held_among ps name ≡ None → named ps name ≡ false
 named_absent [] name h = refl
@@ -185,15 +182,7 @@ made_good m used e = by_size (sectored m) refl (read_sectors (sectors_in m)) ref
 
 pub made_bad : (m : List ℕ) (fault : MemoryFault) → Err fault ≡ tested m → (0 ≡ used_in m) × (0 ≡ free_in m)
 unfolding reading
-made_bad m fault e = by_size (sectored m) refl (read_sectors (sectors_in m)) refl e where
-  by_size : (b : Bool) → sectored m ≡ b → (r : Reading) → read_sectors (sectors_in m) ≡ r → Err fault ≡ cond b (scanned r) (Err NoSectors) → (0 ≡ used_in m) × (0 ≡ free_in m)
-  by_size false w r is i =
-      let read : reading m ≡ bad 0 = ap (λ b. cond b (read_sectors (sectors_in m)) (bad 0)) w in
-      (sym (ap (λ r. length (blocks (pairs_read r))) read), sym (ap free_read read))
-  by_size true w (bad s) is i =
-      let read : reading m ≡ bad s = ap (λ b. cond b (read_sectors (sectors_in m)) (bad 0)) w ∙ is in
-      (sym (ap (λ r. length (blocks (pairs_read r))) read), sym (ap free_read read))
-  by_size true w (good ps unused) is i = absurd (grind arith)
+made_bad m fault e = grind arith
 
 -- a block that is written where the store counts its first unused sector
 pub added_read : (m n : List ℕ) (used free cost : ℕ) (name block : List ℕ) → used ≡ used_in m → free ≡ free_in m → cost ≡ sector_cost (length block) → cost ≤ free → length n ≡ length m → length name ≡ 32 → length block ≤ 10752 → held_among (pairs_read (reading m)) name ≡ None → sectors_in n ≡ take used (sectors_in m) ++ (block_sectors name block ++ drop (used + sector_cost (length block)) (sectors_in m)) → reading n ≡ good (pairs_read (reading m) ++ (record { name = name; block = block } ∷ [])) (free_in m - sector_cost (length block))

@@ -7,6 +7,7 @@ pub mod Scan
 pub mod Memory
 pub mod Test
 pub mod Block
+pub mod Payloads
 pub mod Lawful
 pub mod Put
 pub mod Text

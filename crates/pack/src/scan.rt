@@ -14,7 +14,7 @@ use digest::Digest;
 fn has_name(sector: &Sector, name: &Digest) -> bool
     ensures { result ≡ has_name name.now.bytes sector.now }
 {
-    name_in(sector).bytes == name.bytes
+    name_in(sector) == *name
 }
 
 // The first sector that has this name.
@@ -31,7 +31,8 @@ fn first_used(sectors: &[Sector]) -> Option<usize>
     sectors.iter().position(|sector| !is_unused(sector))
 }
 
-// How many sectors the blocks take, or the first bad sector.
+// How many sectors the blocks take, or the first bad sector. Two loops, over blocks and over their parts, that a label leaves at the first bad
+// sector: the interface of packs fixes this form.
 pub(crate) fn scan(memory: &[u8]) -> Result<usize, MemoryFault>
     ensures { result ≡ scanned (read_sectors (sectors_in memory.now)) }
 {

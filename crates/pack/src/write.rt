@@ -29,7 +29,7 @@ pub(crate) fn write_block(memory: &mut [u8], place: usize, name: &Digest, block:
     ensures { sectors_in memory.new ≡ take place (sectors_in memory.old) ++ (block_sectors name.now.bytes block.entry.bytes.now ++ drop (place + sector_cost (length block.entry.bytes.now)) (sectors_in memory.old)) }
 {
     let full = sectors_for(block.bytes.len()) - 1;
-    let (front, payload) = block.bytes.split_at(full * PART_SIZE);
+    let (front, rest) = block.bytes.split_at(full * PART_SIZE);
     let (payloads, _) = front.as_chunks::<PART_SIZE>();
     for (number, payload) in payloads.iter().enumerate() {
         let part = Part {
@@ -44,7 +44,7 @@ pub(crate) fn write_block(memory: &mut [u8], place: usize, name: &Digest, block:
         kind: PartKind::Last,
         number: full as u16,
         name: *name,
-        payload,
+        payload: rest,
     };
     write_sector(memory, place + full, &last.to_sector());
 }

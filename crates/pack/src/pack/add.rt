@@ -2,7 +2,7 @@
 ghost use Rattle.std.specs.Prelude.{◌≡◌, None};
 ghost use Rattle.store.specs.Answer.{told};
 ghost use Rattle.store.specs.Calls.{outcome, put_answer, put_after};
-ghost use Rattle.pack.specs.Memory.{held_among, pack_meaning, pairs_read, reading};
+ghost use Rattle.pack.specs.Memory.{pack_meaning};
 ghost use Rattle.pack.specs.Pack.{sectors_in};
 ghost use Rattle.pack.specs.Put.{Kept, put_sectors};
 
@@ -14,7 +14,7 @@ use store::{Block, Fault};
 impl<'a> Pack<'a> {
     // Puts a block under a name that no block has.
     pub(super) fn add(&mut self, name: &Digest, block: Block) -> Result<(), Fault>
-        requires { held_among (pairs_read (reading self.old.memory.now)) name.now.bytes ≡ None }
+        requires { (pack_meaning self.old.memory.now).held name.now.bytes ≡ None }
         ensures answer { told result ≡ put_answer (pack_meaning self.old.memory.now) name.now.bytes block.entry.bytes.now }
         ensures after { pack_meaning self.new.memory.now ≡ put_after (pack_meaning self.old.memory.now) name.now.bytes block.entry.bytes.now }
         ensures sectors { sectors_in self.new.memory.now ≡ put_sectors self.old.memory.now name.now.bytes block.entry.bytes.now }

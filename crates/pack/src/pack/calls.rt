@@ -8,7 +8,6 @@ ghost use Rattle.pack.specs.Pack.{sectors_in};
 ghost use Rattle.pack.specs.Put.{Kept, put_sectors};
 
 use super::Pack;
-use crate::read::{copy_block, is_block};
 use crate::write::sectors_for;
 use digest::Digest;
 use store::{BLOCK_LIMIT, Compared, Fault, Store, admit};
@@ -22,16 +21,16 @@ impl Store for Pack<'_> {
         if out.len() < BLOCK_LIMIT {
             return Err(Fault::BufferTooShort);
         }
-        let Some(sectors) = self.lookup(name) else {
+        let Some(payloads) = self.lookup(name) else {
             return Ok(None);
         };
-        Ok(Some(copy_block(sectors, out)))
+        Ok(Some(payloads.copy_to(out)))
     }
 
     fn compare(&self, name: &Digest, block: &[u8]) -> Compared {
         match self.lookup(name) {
             None => Compared::Absent,
-            Some(sectors) if is_block(sectors, block) => Compared::Same,
+            Some(payloads) if payloads.is_block(block) => Compared::Same,
             Some(_) => Compared::Other,
         }
     }

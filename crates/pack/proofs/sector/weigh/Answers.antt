@@ -1,8 +1,11 @@
 -- What was summed and what is left make up all.
-use Rattle.std.proofs.Common.{◌≡◌, suc, ◌+◌, ◌*◌, ◌<◌, ◌≤◌, length, get_or, ap, subst, arith}
+use Rattle.std.proofs.Common.{◌≡◌, ℕ, suc, ◌+◌, ◌*◌, ◌<◌, ◌≤◌, length, get_or, ap, subst, arith}
 use Rattle.pack.specs.Sector.{weighed}
-use Rattle.pack.proofs.Walks.{term_bound}
 use Rattle.pack.proofs.sector.weigh.Goals as goal
+
+-- one byte more keeps the sum small
+term_bound : (sum weight byte : ℕ) → sum ≤ weight * 129540 → weight ≤ 508 → byte < 256 → sum + weight * byte ≤ (weight + 1) * 129540
+term_bound sum weight byte small within fits = grind arith
 
 bounded : (c : goal.After-from) → (c.in-Some.weight ≤ 508) × (c.loop-byte.sum + c.in-Some.weight * c.from.result ≤ (c.in-Some.weight + 1) * 129540)
 bounded c =

@@ -25,7 +25,7 @@ returns-in_err-place c =
     let m = c.args.self.now.memory.now in
     let name = c.args.name.now.bytes in
     let none = looked_up m name None (c.in_err-place.ensures ∙ ap (position (has_name name)) (used_part m c.as_chunks.result.0.now c.args.self.now.used c.args.self.now.filled c.as_chunks.ensures.front)) in
-    subst (λ o. MatchOption o (held_among (pairs_read (reading m)) name ≡ None) (λ ss. Stands (held_among (pairs_read (reading m)) name) ss.now)) (sym c.from_residual.ensures) none
+    subst (λ o. MatchOption o (held_among (pairs_read (reading m)) name ≡ None) (λ ss. Stands (held_among (pairs_read (reading m)) name) ss.sectors.now)) (sym c.from_residual.ensures) none
 
 pub returns : goal.returns
 returns c =
