@@ -1,6 +1,6 @@
 -- Entry after entry, from the first to the end of the node. Assumes nothing.
 use Rattle.std.proofs.Common.{◌≡◌, ℕ, ◌+◌, ◌<◌, ◌≤◌, List, [], ◌∷◌, ◌++◌, length, drop, Some, None, Option, sym, refl, ap, ◌∙◌, subst, ap₂, append_assoc, append-nil, arith}
-use Rattle.std.proofs.lemmas.List.{drop_all, length-drop, nil_from_length}
+use Rattle.std.proofs.lemmas.List.{nil_from_length}
 use Rattle.node.specs.Format as format
 use Rattle.node.specs.Format.{Node, closing, encode, entries, head, link_or_null}
 use Rattle.node.specs.Laws.{Encodes}
@@ -8,14 +8,14 @@ use Rattle.node.specs.Values.{entry_of, key_before}
 use Rattle.node.specs.WellFormed.{Link}
 use Rattle.node.specs.declared.entry.Entry.{Entry}
 use Rattle.node.proofs.Prefixes.{head_one}
-use Rattle.node_reader.specs.Entries.{NoLinkOrNull, ReadsLinkOrNull}
+use Rattle.node_reader.specs.Entries.{NoLinkOrNull}
 use Rattle.node_reader.specs.Nodes.{Closes, Ends, Finishes, Passes, Rest, Steps, with_entry, with_entries}
 use Rattle.node_reader.specs.Reader.{Left, Takes}
 use Rattle.node_reader.specs.Stands.{Absent, Stands}
 use Rattle.node_reader.specs.declared.entries.Entries.{Entries}
 use Rattle.node_reader.specs.declared.input.Input.{Input}
 use Rattle.node_reader.specs.declared.cursor.Cursor.{Cursor}
-use Rattle.node_reader.proofs.Parts.{joins, past_bytes, past_link}
+use Rattle.node_reader.proofs.Parts.{joins, past_bytes}
 
 pub passes_none : (c : ℕ) (s : List ℕ) (start : Cursor) → Passes c s start start
 passes_none c s start = record { passed = []; down = λ n rest. (n, refl, rest); up = λ m rest. rest }
@@ -99,19 +99,6 @@ module _ (from to : Entries) (count : ℕ) (taken : Taken from to count) where
 module _ (c : ℕ) (s : List ℕ) (at link_at : ℕ) (tag : Stands s at (0x61 ∷ (0x6C ∷ [])) link_at) where
   pub no_first : NoLinkOrNull s link_at c → (first : Option (List ℕ)) → Finishes c s at first → ⊥
   no_first none first ends = none first ends.formed [] (past_bytes tag ends.is ∙ sym (append-nil (link_or_null c first)))
-
-  module _ (first : Option (List ℕ)) (end : ℕ) (reads : ReadsLinkOrNull s link_at c first end) where
-    pub more_behind : (end ≡ length s → ⊥) → (other : Option (List ℕ)) → Finishes c s at other → ⊥
-    more_behind past other ends =
-        let none : drop end s ≡ []
-        = past_link c first other reads.long ends.formed reads.stands (past_bytes tag ends.is ∙ sym (append-nil (link_or_null c other))) in
-        past (omega (arith, reads.stands.within, length-drop end s, ap length none))
-
-    pub finishes : end ≡ length s → Finishes c s at first
-    finishes last = record {
-      formed = reads.long;
-      is = (joins tag reads.stands).is ∙ ap (λ rest. closing c first ++ rest) (drop_all end s (omega arith)) ∙ append-nil (closing c first);
-    }
 
 -- all entries are there, and their end is not
 pub closes_not : (c : ℕ) (s : List ℕ) (start : Cursor) (at : ℕ) → Closes c s start at → ((first : Option (List ℕ)) → Finishes c s at first → ⊥)

@@ -4,7 +4,7 @@ use Rattle.std.proofs.lemmas.List.{drop_at, drop-drop, length-append, length-dro
 use Rattle.std.specs.List.{slice_range}
 use Rattle.node.specs.Format.{byte_string, head, link}
 use Rattle.node.proofs.Prefixes.{head_one}
-use Rattle.node_reader.specs.Items.{NoHead, NoString, ReadsLink, ReadsString}
+use Rattle.node_reader.specs.Items.{NoString, ReadsLink, ReadsString}
 use Rattle.node_reader.specs.Stands.{Absent, Part, Stands}
 
 -- what `get(at..)` lends is all that stands from there on
@@ -65,9 +65,6 @@ place_behind_head s at at_k rest end tag string =
 -- a part that is longer than what is left
 pub too_short : (s : List ℕ) (at : ℕ) (p : List ℕ) → length s - at < length p → Absent s at p
 too_short s at p short = λ r e. omega (arith, simp (length-append, length-drop) at (ap length e))
-
-pub string_absent : (s : List ℕ) (at m : ℕ) → NoHead s at m → NoString s at m
-string_absent s at m none = λ b short r e. none (length b) short (b ++ r) (simp append_assoc at e)
 
 module _ (s : List ℕ) (at start m n : ℕ) (behind : Stands s at (head m n) start) where
   pub string_short : length s < start + n → NoString s at m

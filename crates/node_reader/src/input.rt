@@ -15,7 +15,7 @@ const IN_HEAD: u8 = 23;
 // In the head: the number stands in the next byte.
 const IN_NEXT: u8 = 24;
 
-// A block, and the code of the links in it.
+// A block, and the code of the links in it: the kind's byte, so that the readers of all kinds are one type.
 #[derive(Clone, Copy)]
 pub struct Input<'a> {
     pub(crate) block: &'a [u8],

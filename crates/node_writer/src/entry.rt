@@ -5,14 +5,15 @@ ghost use Rattle.node.specs.Values.{entry_of};
 ghost use Rattle.node_writer.specs.Put.{Writes};
 
 use crate::output::Output;
+use digest::DigestKind;
 use keys::shared_len;
 use node::{Entry, MajorType};
 
 impl Output<'_> {
     // Writes an entry after the key `before`. Each of its four fields stands behind its name.
-    pub(crate) fn entry(&mut self, code: u8, before: &[u8], entry: &Entry)
+    pub(crate) fn entry<K: DigestKind>(&mut self, before: &[u8], entry: &Entry)
         requires { self.old.at + 159 ≤ length self.old.buffer.now }
-        ensures writes { Writes self.old self.new (entry_bytes code before.now (entry_of entry.now)) }
+        ensures writes { Writes self.old self.new (entry_bytes K.DigestKind.kind.code before.now (entry_of entry.now)) }
         ensures bound { self.new.at ≤ self.old.at + 159 }
     {
         let key = entry.key.as_slice();
@@ -22,8 +23,8 @@ impl Output<'_> {
         self.bytes(&[0x61, b'p']);
         self.head(MajorType::Number, shared as u8);
         self.bytes(&[0x61, b't']);
-        self.link_or_null(code, entry.after);
+        self.link_or_null::<K>(entry.after);
         self.bytes(&[0x61, b'v']);
-        self.link(code, &entry.value);
+        self.link::<K>(&entry.value);
     }
 }

@@ -5,7 +5,7 @@ ghost use Rattle.node.specs.Major.{major_base};
 ghost use Rattle.node.specs.Values.{link_of};
 ghost use Rattle.node_writer.specs.Put.{Writes};
 
-use digest::Digest;
+use digest::{Digest, DigestKind};
 use node::MajorType;
 
 // Numbers below this stand in the first byte of a head.
@@ -59,24 +59,24 @@ impl Output<'_> {
     }
 
     // Writes a link to the block of this digest, under the code of its kind.
-    pub(crate) fn link(&mut self, code: u8, to: &Digest)
+    pub(crate) fn link<K: DigestKind>(&mut self, to: &Digest)
         requires { self.old.at + 41 ≤ length self.old.buffer.now }
-        ensures writes { Writes self.old self.new (link code to.now.bytes) }
+        ensures writes { Writes self.old self.new (link K.DigestKind.kind.code to.now.bytes) }
         ensures bound { self.new.at ≤ self.old.at + 41 }
     {
-        self.bytes(&[0xD8, 0x2A, 0x58, 0x25, 0x00, 0x01, 0x71, code, 0x20]);
+        self.bytes(&[0xD8, 0x2A, 0x58, 0x25, 0x00, 0x01, 0x71, K::CODE, 0x20]);
         self.bytes(&to.bytes);
     }
 
     // Writes a link, or null where there is none.
-    pub(crate) fn link_or_null(&mut self, code: u8, to: Option<Digest>)
+    pub(crate) fn link_or_null<K: DigestKind>(&mut self, to: Option<Digest>)
         requires { self.old.at + 41 ≤ length self.old.buffer.now }
-        ensures writes { Writes self.old self.new (link_or_null code (link_of to)) }
+        ensures writes { Writes self.old self.new (link_or_null K.DigestKind.kind.code (link_of to)) }
         ensures bound { self.new.at ≤ self.old.at + 41 }
     {
         match to {
             None => self.bytes(&[NULL]),
-            Some(digest) => self.link(code, &digest),
+            Some(digest) => self.link::<K>(&digest),
         }
     }
 }

@@ -1,4 +1,4 @@
-// A node that is being written. The buffer is lent to each call.
+// A node that is being written. The buffer is the caller's, and lent to each call, so that it can be read between.
 ghost use Rattle.std.specs.Prelude.{◌≡◌, ℕ, ◌+◌, ◌*◌, ◌<◌, ◌≤◌, List, [], ◌∷◌, ◌++◌, length, take, Some, MatchOption};
 ghost use Rattle.node.specs.Format.{Entry as EntryValue, closing, encode, entry as entry_bytes};
 ghost use Rattle.node.specs.Values.{entry_of, key_before, link_of};
@@ -58,7 +58,7 @@ impl NodeWriter {
             buffer: out,
             at: self.at,
         };
-        output.entry(K::CODE, self.previous(), entry);
+        output.entry::<K>(self.previous(), entry);
         self.at = output.at;
         self.left -= 1;
         self.last = Some(entry.key);
@@ -88,7 +88,7 @@ impl NodeWriter {
             at: self.at,
         };
         output.bytes(&[0x61, b'l']);
-        output.link_or_null(K::CODE, first);
+        output.link_or_null::<K>(first);
         output.at
     }
 }

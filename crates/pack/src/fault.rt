@@ -14,7 +14,7 @@ impl MemoryFault {
     ghost use Rattle.std.specs.Prelude.{◌≡◌};
     ghost use Rattle.pack.specs.Test.{fault_told, verdict_number};
 
-    // The number that the outside sees.
+    // The number that the outside sees. By cases: a variant that carries a value has no discriminant.
     pub fn number(self) -> u8
         ensures { result ≡ verdict_number (fault_told self) }
     {

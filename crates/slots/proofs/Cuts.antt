@@ -3,7 +3,7 @@ use Rattle.std.proofs.Common.{◌≡◌, ℕ, ◌+◌, ◌-◌, ◌*◌, ◌/◌
 use borrow.Rule.Slice.PartMut.{put_mid}
 use Rattle.std.proofs.lemmas.List.{length-drop, length-take}
 use Rattle.std.proofs.lemmas.Slice.{drop-put_mid}
-use Rattle.store.proofs.Chunks.{length_chunked, getD_chunked, chunked_put, length-put}
+use Rattle.store.proofs.Chunks.{length_chunked, getD_chunked, piece_written, length-put}
 use Rattle.slots.specs.Memory.{slots_in, left_over}
 
 -- how many slots memory has
@@ -13,12 +13,6 @@ slot_count m = length_chunked 10788 (length m / 10788) m
 -- a slot where it stands in memory
 pub slot_at : (m : List ℕ) (i : ℕ) → i < length m / 10788 → get_or (slots_in m) i [] ≡ take 10788 (drop (i * 10788) m)
 slot_at m i within = getD_chunked 10788 (length m / 10788) i m within
-
--- a whole slot is written
-pub slot_written : (m w : List ℕ) (i : ℕ) → i < length m / 10788 → length w ≡ 10788 → slots_in (put_mid (i * 10788) 10788 m w) ≡ set (slots_in m) i w
-slot_written m w i within long =
-    let size = length-put (i * 10788) 10788 m w (omega arith) long in
-    rw size (chunked_put 10788 (length m / 10788) i m w within (omega arith) long)
 
 -- as the checker has a change to the part of memory where a slot stands
 pub slot_changed : (change : List ℕ → List ℕ) (m w : List ℕ) (i : ℕ)
@@ -31,7 +25,7 @@ slot_changed change m w i within long is =
     let whole : take (i * 10788 + 10788 - i * 10788) (drop (i * 10788) m) ≡ get_or (slots_in m) i [] = ap (λ n. take n (drop (i * 10788) m)) size ∙ sym (slot_at m i within) in
     let full : length w ≡ 10788 = long ∙ ap (λ n. length (take n (drop (i * 10788) m))) size ∙ omega (arith, length-take 10788 (drop (i * 10788) m), length-drop (i * 10788) m) in
     ap (λ n. slots_in (put_mid (i * 10788) n m w)) size
-    ∙ slot_written m w i within full
+    ∙ piece_written 10788 i m w within full
     ∙ ap (set (slots_in m) i) (is ∙ ap change whole)
 
 -- and what belongs to no slot stays

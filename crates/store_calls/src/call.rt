@@ -6,7 +6,8 @@ use digest::Digest;
 use std::alloc::{AllocError, Global};
 use store::Store;
 
-// A name is told by its last byte, and a block by its length and its first byte.
+// A name is told by its last byte, and a block by its length and its first byte. Calls are values and no closures: the tables are read beside
+// the model, and each line says its call.
 #[derive(Clone, Copy)]
 pub(crate) enum Call {
     // The free units, and what the shortest and the longest block cost.

@@ -6,7 +6,7 @@ ghost use Rattle.keys.specs.Size.{KeySized, Joins};
 use super::Key;
 
 impl Key {
-    // The key of these bytes, or none where they are no bytes or too many.
+    // The key of these bytes, or none where they are no bytes or too many: an `Option`, as where std makes a value that may not exist.
     pub fn new(bytes: &[u8]) -> Option<Key>
         ensures { Made result (KeySized (length bytes.now)) bytes.now }
     {

@@ -1,5 +1,5 @@
 -- One entry more.
-use Rattle.std.proofs.Common.{sym, refl, ap₂, ◌∙◌, arith, rules}
+use Rattle.std.proofs.Common.{sym, refl, ap, arith, rules}
 use Rattle.node.specs.Format.{entry}
 use Rattle.node.specs.Values.{entry_of}
 use Rattle.node_writer.proofs.Puts.{puts_as, puts_into, puts_kept}
@@ -8,9 +8,8 @@ use Rattle.node_writer.proofs.writer.NodeWriter.push.Goals as goal
 
 pub returns-clause-puts : goal.returns-clause-puts
 returns-clause-puts g c =
-    let new = entry_of c.args.entry.now in
     puts_into {t = c.entry.new.self.buffer.now} (search rules)
-    (puts_as (ap₂ (λ code before. entry code before new) (sym (c.CODE.ensures ∙ g.met.K.DigestKind.coded)) (sym c.previous.ensures)) c.entry.ensures.writes.puts)
+    (puts_as (ap (λ before. entry g.K.DigestKind.kind.code before (entry_of c.args.entry.now)) (sym c.previous.ensures)) c.entry.ensures.writes.puts)
 
 pub returns-clause-kept : goal.returns-clause-kept
 returns-clause-kept g c = puts_kept (returns-clause-puts g c)
