@@ -12,7 +12,7 @@ use node_reader::NodeReader;
 use std::alloc::{AllocError, Global};
 use std::fmt;
 
-#[derive(Clone, Copy, PartialEq, Eq)]
+#[derive(Debug, Clone, Copy, PartialEq, Eq)]
 pub enum Verdict {
     // It is the encoding of no node.
     Refused,

@@ -1,10 +1,8 @@
 -- The digits of bytes, as the library writes them. Assumes nothing.
-use Rattle.std.proofs.Common.{◌≡◌, ℕ, ◌+◌, ◌-◌, ◌/◌, ◌%◌, ◌^◌, ◌<◌, false, List, [], ◌∷◌, ◌++◌, length, get_or, take, map, codes, sym, refl, ap, ◌∙◌, arith}
-use Rattle.std.specs.List.{range_with_len, flat_map}
-use Rattle.std.specs.Fmt.{digits, digit_glyph, format_spec, padded_integral}
-use Rattle.std.proofs.lemmas.Fmt.{hex_byte}
-use Rattle.std.proofs.lemmas.List.{take_more}
-use Rattle.std.proofs.lemmas.List.FromFn.{get_or-map-range_with_len}
+use Rattle.std.proofs.Common.{◌≡◌, ℕ, zero, suc, true, nat_lt, ◌/◌, ◌%◌, ◌<◌, List, [], ◌∷◌, get_or, codes, refl, ap, arith}
+use Rattle.std.proofs.lemmas.Bool.Decides.{nat_tests}
+use Rattle.std.specs.List.{flat_map, list_all}
+use Rattle.std.specs.Str.{IsAscii}
 use Rattle.digest.specs.Hex.{hex_digit, hex}
 
 -- two digits for each byte
@@ -15,22 +13,18 @@ pub hex-flat_map : (bytes : List ℕ) → flat_map two_digits bytes ≡ hex byte
 hex-flat_map [] = refl
 hex-flat_map (b ∷ bytes) = ap (λ rest. hex_digit (b / 16) ∷ (hex_digit (b % 16) ∷ rest)) (hex-flat_map bytes)
 
-hex-append : (a b : List ℕ) → hex (a ++ b) ≡ hex a ++ hex b
-hex-append [] b = refl
-hex-append (x ∷ a) b = ap (λ rest. hex_digit (x / 16) ∷ (hex_digit (x % 16) ∷ rest)) (hex-append a b)
+-- bytes of which each passes the test are text
+below : (xs : List ℕ) (n : ℕ) → list_all (λ b. nat_lt b 128) xs ≡ true → get_or xs n 0 < 128
+below [] n all = omega arith
+below (x ∷ xs) zero all = grind (arith, nat_tests)
+below (x ∷ xs) (suc n) all = let rest = below xs n in grind (arith, nat_tests)
 
--- the library's digit of a half byte
-glyphs : map (digit_glyph false) (range_with_len 0 16) ≡ codes "0123456789abcdef"
-glyphs = refl
+hex_digit-ascii : (n : ℕ) → hex_digit n < 128
+hex_digit-ascii n = below (codes "0123456789abcdef") n refl
 
-digit_glyph-half : (n : ℕ) → n < 16 → digit_glyph false n ≡ hex_digit n
-digit_glyph-half n half = sym (get_or-map-range_with_len (digit_glyph false) 0 16 n n 0 half (omega arith)) ∙ ap (λ all. get_or all n 0) glyphs
-
--- the digits of one byte more, as `{:02x}` writes them
-pub hex-take_more : (bytes : List ℕ) (i : ℕ) → i < length bytes → get_or bytes i 0 < 256
-    → hex (take i bytes) ++ padded_integral (format_spec 32 0 4 2 (2 ^ 64 - 1)) false [] (digits 16 false (get_or bytes i 0)) ≡ hex (take (i + 1) bytes)
-hex-take_more bytes i within small =
-    let b = get_or bytes i 0 in
-    let high : digit_glyph false (b / 16) ≡ hex_digit (b / 16) = digit_glyph-half (b / 16) (omega arith) in
-    let low : digit_glyph false (b % 16) ≡ hex_digit (b % 16) = digit_glyph-half (b % 16) (omega arith) in
-    rw (hex_byte false b small, high, low, take_more bytes i 0 within, hex-append) refl
+-- digits are text
+pub hex-IsAscii : (bytes : List ℕ) → IsAscii (hex bytes)
+hex-IsAscii [] i = omega arith
+hex-IsAscii (b ∷ bytes) zero = hex_digit-ascii (b / 16)
+hex-IsAscii (b ∷ bytes) (suc zero) = hex_digit-ascii (b % 16)
+hex-IsAscii (b ∷ bytes) (suc (suc i)) = hex-IsAscii bytes i

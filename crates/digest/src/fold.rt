@@ -5,6 +5,7 @@ ghost use Rattle.digest.specs.Fold.{fold};
 use crate::digest::Digest;
 use crate::kind::DigestKind;
 
+#[derive(Debug, Clone, Copy)]
 pub struct Fold;
 
 impl DigestKind for Fold {

@@ -3,7 +3,7 @@ ghost use Rattle.std.specs.Prelude.{◌≡◌, ◌<◌, [], ◌∷◌, Some, ◌
 ghost use Rattle.digest.specs.Hex.{hex_digit, hex};
 
 use crate::digest::Digest;
-use std::fmt;
+use std::{fmt, str};
 
 const DIGITS: [u8; 16] = *b"0123456789abcdef";
 
@@ -18,15 +18,13 @@ impl Digest {
     }
 }
 
-// The same digits.
+// The same digits, which are text.
 impl fmt::Display for Digest {
     ghost output = { λ digest. Some (hex digest.bytes) };
 
     fn fmt<W: fmt::Write>(&self, f: &mut fmt::Formatter<W>) -> fmt::Result {
-        for byte in &self.bytes {
-            write!(f, "{byte:02x}")?;
-        }
-        Ok(())
+        let digits = self.to_hex();
+        f.write_str(str::from_utf8(&digits).unwrap())
     }
 }
 

@@ -1,7 +1,8 @@
 // The bytes of nodes: definitions and their laws.
 //
 //   Entry         an entry of a node by value
-//   MajorType     the kinds of CBOR items in a node
+//   MajorType     the kinds of CBOR items in a node, with what their heads have
+//   link_prefix   what a link has before its digest
 //   block_limit   the most bytes of a block
 #![tactic(auto)]
 
@@ -11,14 +12,12 @@ ghost use Rattle.node.specs.Laws.{Encodings, Fits, OfBytes};
 mod entry;
 mod major;
 
+pub use digest::BLOCK_LIMIT;
 pub use entry::Entry;
-pub use major::MajorType;
+pub use major::{FIRST_LARGE, IN_NEXT, MajorType, NULL, link_prefix};
 
 // The most keys of a node.
 pub const KEY_LIMIT: usize = 64;
-
-// The most bytes of a block.
-pub const BLOCK_LIMIT: usize = digest::BLOCK_LIMIT;
 
 // The most bytes of a block. Every node fits, and a node and its bytes determine each other.
 pub fn block_limit() -> usize

@@ -2,7 +2,7 @@
 use keys::Key;
 
 // The place of the next entry, how many are to come, and the key before it.
-#[derive(Clone, Copy)]
+#[derive(Debug, Clone, Copy)]
 pub struct Cursor {
     pub(crate) at: usize,
     pub(crate) left: usize,

@@ -15,7 +15,7 @@ use keys::{Key, shared_len};
 use node::Entry;
 
 // The entries from a cursor on.
-#[derive(Clone, Copy)]
+#[derive(Debug, Drop)]
 pub struct Entries<'a> {
     pub(crate) input: Input<'a>,
     pub(crate) cursor: Cursor,

@@ -7,7 +7,7 @@ use digest::DigestKind;
 use node::MajorType;
 
 // The parts of an entry, lent from the block.
-#[derive(Clone, Copy)]
+#[derive(Debug, Clone, Copy)]
 pub struct EntryParts<'a> {
     // What the key has beyond the bytes that it shares with the key before it: the bytes of the block from `place` on.
     pub rest: &'a [u8],

@@ -7,16 +7,11 @@ ghost use Rattle.node_reader.specs.Items.{NoHead, NoLink, NoString, ReadsLink, R
 ghost use Rattle.node_reader.specs.Stands.{Absent, Stands};
 
 use digest::DigestKind;
-use node::MajorType;
+use node::{FIRST_LARGE, IN_NEXT, MajorType, NULL, link_prefix};
 
-// A number up to this one stands in the head itself; a larger one follows it in a byte of its own.
-const IN_HEAD: u8 = 23;
-
-// In the head: the number stands in the next byte.
-const IN_NEXT: u8 = 24;
-
-// A block, and the code of the links in it: the kind's byte, so that the readers of all kinds are one type.
-#[derive(Clone, Copy)]
+// A block, and the code of the links in it: the kind's byte, so that the readers of all kinds are one type. A reading answers where it ended,
+// and moves nothing: where one fails, another is tried at the same place.
+#[derive(Debug, Clone, Copy)]
 pub struct Input<'a> {
     pub(crate) block: &'a [u8],
     pub(crate) code: u8,
@@ -48,14 +43,14 @@ impl<'a> Input<'a> {
         ensures { MatchOption result (NoHead self.entry.block.now at (major_base major)) (λ v. Stands self.entry.block.now at (head (major_base major) v.0) v.1) }
     {
         let n = self.block.get(at)?.checked_sub(major.base())?;
-        if n <= IN_HEAD {
+        if n < FIRST_LARGE {
             return Some((n, at + 1));
         }
         if n > IN_NEXT {
             return None;
         }
         let n = *self.block.get(at + 1)?;
-        if n <= IN_HEAD {
+        if n < FIRST_LARGE {
             return None;
         }
         Some((n, at + 2))
@@ -74,10 +69,7 @@ impl<'a> Input<'a> {
     pub(crate) fn link(self, at: usize) -> Option<(&'a [u8; 32], usize)>
         ensures { MatchOption result (NoLink self.entry.block.now at self.entry.code) (λ v. ReadsLink self.entry.block.now at self.entry.code v.0.now v.1) }
     {
-        let start = self.skip(
-            at,
-            &[0xD8, 0x2A, 0x58, 0x25, 0x00, 0x01, 0x71, self.code, 0x20],
-        )?;
+        let start = self.skip(at, &link_prefix(self.code))?;
         let digest = self.block[start..].first_chunk::<32>()?;
         Some((digest, start + 32))
     }
@@ -89,6 +81,6 @@ impl<'a> Input<'a> {
         if let Some((digest, end)) = self.link(at) {
             return Some((Some(digest), end));
         }
-        Some((None, self.skip(at, &[0xF6])?))
+        Some((None, self.skip(at, &[NULL])?))
     }
 }

@@ -4,11 +4,11 @@ ghost use Rattle.node_reader.specs.Items.{NoItem, ReadsItem};
 
 use crate::input::Input;
 use digest::DigestKind;
-use node::MajorType;
+use node::{MajorType, NULL};
 
 // An item, as the part of the block that it is, with the place where that part begins. Of an array or a map only the head is an item;
 // its elements follow.
-#[derive(Clone, Copy)]
+#[derive(Debug, Clone, Copy)]
 pub enum Item<'a> {
     Number(u8),
     Bytes(&'a [u8], usize),
@@ -42,5 +42,5 @@ pub fn read_item<K: DigestKind>(block: &[u8], at: usize) -> Option<(Item<'_>, us
     if let Some((digest, end)) = input.link(at) {
         return Some((Item::Link(digest, end - digest.len()), end));
     }
-    Some((Item::Null, input.skip(at, &[0xF6])?))
+    Some((Item::Null, input.skip(at, &[NULL])?))
 }

@@ -14,7 +14,7 @@ use digest::{Digest, DigestKind};
 use node::{KEY_LIMIT, MajorType};
 
 // A block that is the encoding of a node: where its entries begin, and its first link.
-#[derive(Clone, Copy)]
+#[derive(Debug, Clone, Copy)]
 pub struct NodeReader<'a> {
     pub(crate) input: Input<'a>,
     pub(crate) start: Cursor,

@@ -6,15 +6,7 @@ ghost use Rattle.node.specs.Values.{link_of};
 ghost use Rattle.node_writer.specs.Put.{Writes};
 
 use digest::{Digest, DigestKind};
-use node::MajorType;
-
-// Numbers below this stand in the first byte of a head.
-const FIRST_LARGE: u8 = 24;
-
-// In the first byte of a head: the number stands in the next.
-const IN_NEXT: u8 = 24;
-
-const NULL: u8 = 0xF6;
+use node::{FIRST_LARGE, IN_NEXT, MajorType, NULL, link_prefix};
 
 // A buffer of the caller, and the place where the next byte goes.
 #[derive(Drop)]
@@ -64,7 +56,7 @@ impl Output<'_> {
         ensures writes { Writes self.old self.new (link K.DigestKind.kind.code to.now.bytes) }
         ensures bound { self.new.at ≤ self.old.at + 41 }
     {
-        self.bytes(&[0xD8, 0x2A, 0x58, 0x25, 0x00, 0x01, 0x71, K::CODE, 0x20]);
+        self.bytes(&link_prefix(K::CODE));
         self.bytes(&to.bytes);
     }
 

@@ -10,7 +10,7 @@ use keys::Key;
 use node::{BLOCK_LIMIT, Entry, KEY_LIMIT, MajorType};
 
 // Where the next entry goes, how many entries are to come, and the key of the last one.
-#[derive(Clone, Copy)]
+#[derive(Debug, Clone, Copy)]
 pub struct NodeWriter {
     at: usize,
     left: usize,

@@ -1,9 +1,9 @@
 -- Walks over the parts of a block. Assumes nothing.
-use Rattle.std.proofs.Common.{Bool, true, false, cond, ◌≡◌, ℕ, suc, ◌+◌, ◌-◌, ◌≤◌, ◌&&◌, eqb, List, [], ◌∷◌, ◌++◌, length, take, drop, sym, refl, ap, ◌∙◌, arith}
+use Rattle.std.proofs.Common.{Bool, true, false, cond, ◌≡◌, ℕ, ◌+◌, ◌-◌, ◌≤◌, ◌&&◌, List, [], ◌∷◌, ◌++◌, length, take, drop, sym, refl, ap, ◌∙◌, arith}
 use borrow.Rule.Slice.PartMut.{put_mid}
 use Rattle.std.specs.Str.{bytes_eq}
 use Rattle.std.proofs.lemmas.List.{append_assoc, drop_at, drop-drop, drop-take, length-append, length-drop, length-take-le, take_all, take-append-drop, take_at, take-take}
-use Rattle.std.proofs.lemmas.Bool.{eq-eqb, ne_eqb}
+use Rattle.std.proofs.lemmas.Bool.{eq-eqb}
 use Rattle.std.specs.Borrow.{Bor}
 use Rattle.std.specs.Prelude.{◌==◌, slice_index, Some}
 use Rattle.pack.specs.Block.{block_from, part_bytes}
@@ -74,8 +74,3 @@ passed b p x r y is starts = ap (λ z. bytes_eq z r) is ∙ ap (bytes_eq (p ++ x
 -- one that is not tells
 pub same_not : (b p x y : List ℕ) → b ≡ p ++ x → ((rest : List ℕ) → y ≡ p ++ rest → ⊥) → bytes_eq b y ≡ false
 same_not b p x y is other = same_no b y (λ e. other x (sym e ∙ is))
-
--- at the end of the parts
-pub same_none : (ys : List ℕ) → eqb (length ys) 0 ≡ bytes_eq [] ys
-same_none [] = refl
-same_none (y ∷ ys) = ne_eqb (suc (length ys)) 0 (λ e. omega arith)

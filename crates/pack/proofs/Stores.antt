@@ -4,7 +4,7 @@ use mathlib.Core.Path.{fun_ext}
 use Rattle.std.specs.List.{position}
 use Rattle.std.specs.Str.{bytes_eq}
 use Rattle.std.proofs.lemmas.Slice.Eq.{bytes_eq-Decides}
-use Rattle.std.proofs.lemmas.List.{append_assoc, drop-append-le, drop_at, drop-drop, drop-replicate, length-append, length-replicate, take-append-drop, take_at}
+use Rattle.std.proofs.lemmas.List.{length-drop, length-take, append_assoc, drop-append-le, drop_at, drop-drop, drop-replicate, length-append, length-replicate, take-append-drop, take_at}
 use Rattle.std.proofs.lemmas.Bool.{or_from, or_parts}
 use Rattle.store.specs.Calls.{with_block, with_pair}
 use Rattle.store.specs.Runs.{Pair}
@@ -82,6 +82,7 @@ held_at m name i h =
     ∙ append_assoc (block_sectors name f.block) f.rest tail in
     let block : block_from (drop i ss) ≡ f.block = ap block_from there ∙ block_parts (full_parts (length f.block)) name 0 f.block (f.rest ++ tail) f.long (block_cut (length f.block) f.short) in
     record {
+      some = omega (arith, h.within, length-take (used_in m) ss, length-drop i ss);
       is = f.held ∙ ap Some (sym block);
       short = omega (arith, ap length block, f.short);
     }

@@ -11,12 +11,14 @@ use crate::sector::{
 use digest::Digest;
 use store::BLOCK_LIMIT;
 
+// Whether another part follows, as byte 0 has it.
 #[derive(Clone, Copy, Debug, PartialEq, Eq)]
 pub(crate) enum PartKind {
     MoreFollows = 0x01,
     Last = 0x02,
 }
 
+// What one sector holds of a block.
 #[derive(Clone, Copy, Debug)]
 pub(crate) struct Part<'a> {
     pub(crate) kind: PartKind,

@@ -9,7 +9,7 @@ use crate::part::PartKind;
 use crate::sector::{Sector, payload_in};
 
 // The bytes of the block that begins at the first of these sectors, part after part.
-#[derive(Clone, Copy)]
+#[derive(Drop)]
 pub(crate) struct Payloads<'a> {
     pub(crate) sectors: &'a [Sector],
 }

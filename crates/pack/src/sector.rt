@@ -40,8 +40,7 @@ pub(crate) fn count_in(sector: &Sector) -> usize
 pub(crate) fn name_in(sector: &Sector) -> Digest
     ensures { result.bytes ≡ name_of sector.now }
 {
-    let mut bytes = [0; 32];
-    bytes.copy_from_slice(&sector[NAME_AT..PAYLOAD_AT]);
+    let bytes = <[u8; 32]>::try_from(&sector[NAME_AT..PAYLOAD_AT]).unwrap();
     Digest { bytes }
 }
 

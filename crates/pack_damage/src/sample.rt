@@ -5,6 +5,7 @@ use store::{Fault, Store};
 
 pub(crate) const SECTORS: usize = 6;
 
+// Said here anew, as the sum is in `damage`: the program tests what the crate says.
 pub(crate) const SECTOR_SIZE: usize = 512;
 
 pub(crate) const SAMPLE_SIZE: usize = SECTORS * SECTOR_SIZE;

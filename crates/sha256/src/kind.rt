@@ -7,6 +7,7 @@ use crate::padding::pad;
 use crate::tables::start_state;
 use digest::{Digest, DigestKind};
 
+#[derive(Debug, Clone, Copy)]
 pub struct Sha256;
 
 impl DigestKind for Sha256 {

@@ -9,13 +9,14 @@ use std::slice;
 const LENGTH_AT: usize = 56;
 
 // The last block of a padded message, or the last two.
-#[derive(Clone, Copy)]
+#[derive(Debug, Clone, Copy)]
 pub(crate) enum Tail {
     One([u8; 64]),
     Two([[u8; 64]; 2]),
 }
 
 impl Tail {
+    // The block, or the blocks.
     pub(crate) fn as_blocks(&self) -> &[[u8; 64]]
         ensures { result.now ≡ tail_blocks self.now }
     {

@@ -6,7 +6,7 @@ ghost use Rattle.sha256.specs.Sha256.{state_bytes};
 use crate::words::{big_sigma0, big_sigma1, choose, majority};
 
 // The hash value, and the working variables of the rounds. Eight names and no array: a round moves each to another, by the standard's names.
-#[derive(Clone, Copy)]
+#[derive(Debug, Clone, Copy)]
 pub struct State {
     pub a: u32,
     pub b: u32,

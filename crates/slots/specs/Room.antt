@@ -6,9 +6,9 @@
 --   memory_answer    what the test answers
 --
 -- Assumes nothing.
-use Rattle.std.specs.Prelude.{ℕ, cond, List, ◌++◌, Ok, Err, Result, codes, nat_lt}
-use Rattle.std.specs.Fmt.{decimal}
+use Rattle.std.specs.Prelude.{ℕ, cond, List, Ok, Err, Result, nat_lt}
 use Rattle.store.specs.Answer.{Answer, done, refused}
+use Rattle.store.specs.Text.{refusal_text}
 use Rattle.slots.specs.Slot.{slot_size}
 use Rattle.slots.specs.declared.fault.MemoryFault.{MemoryFault}
 use Rattle.slots.specs.declared.fault.MemoryFault.TheVariants.{NoSlot}
@@ -17,9 +17,9 @@ use Rattle.slots.specs.declared.fault.MemoryFault.TheVariants.{NoSlot}
 abbrev pub memory_number : MemoryFault → ℕ
 memory_number NoSlot = 14
 
--- with its number in decimal digits
+-- with its number
 abbrev pub memory_text : MemoryFault → List ℕ
-memory_text fault = codes "refused " ++ decimal (memory_number fault)
+memory_text fault = refusal_text (memory_number fault)
 
 -- the fault by its number
 abbrev pub memory_told : Result (Unit {0}) MemoryFault → Answer (Unit {0})

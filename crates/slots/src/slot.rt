@@ -16,7 +16,7 @@ const BLOCK_AT: usize = 36;
 // In the place of the length's high byte: the slot is unused.
 const UNUSED: u8 = 0xFF;
 
-// The length as it stands in the slot, more than any block has where the slot is unused.
+// The number that stands in the place of the length.
 fn length_in(slot: &[u8; SLOT_SIZE]) -> usize
     ensures { result ≡ slot_length slot.now }
 {
@@ -28,7 +28,7 @@ fn length_in(slot: &[u8; SLOT_SIZE]) -> usize
     ]) as usize
 }
 
-// Whether the slot holds a pair.
+// Whether the slot holds a pair: the number is the length of a block.
 pub(crate) fn in_use(slot: &[u8; SLOT_SIZE]) -> bool
     ensures { result ≡ is_used slot.now }
 {

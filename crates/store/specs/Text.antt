@@ -1,6 +1,7 @@
 -- How answers are printed.
 --
---   fault_text      a refusal, with its number
+--   refusal_text    a refusal of any kind, by its number
+--   fault_text      a refusal of a store
 --   compared_text   a word for each
 --
 -- Assumes nothing.
@@ -12,8 +13,11 @@ use Rattle.store.specs.declared.compared.Compared.TheVariants.{Absent, Same, Oth
 use Rattle.store.specs.declared.fault.Fault.{Fault}
 
 -- in decimal digits
+abbrev pub refusal_text : ℕ → List ℕ
+refusal_text n = codes "refused " ++ decimal n
+
 abbrev pub fault_text : Fault → List ℕ
-fault_text fault = codes "refused " ++ decimal (number fault)
+fault_text fault = refusal_text (number fault)
 
 abbrev pub compared_text : Compared → List ℕ
 compared_text Absent = codes "absent"

@@ -3,9 +3,7 @@ ghost use Rattle.std.specs.Prelude.{◌≤◌, length};
 ghost use Rattle.store.specs.Meaning.{block_limit};
 
 use crate::fault::Fault;
-
-// The most bytes that a block has.
-pub const BLOCK_LIMIT: usize = digest::BLOCK_LIMIT;
+use digest::BLOCK_LIMIT;
 
 // The bytes of a block.
 #[derive(Clone, Copy, Debug, PartialEq, Eq, Hash)]

@@ -8,7 +8,8 @@ use crate::fault::Fault;
 use crate::store::Store;
 use digest::Digest;
 
-// Puts the block that one store holds under a name to the other, and answers whether it was there. The block passes through `work`.
+// Puts the block that one store holds under a name to the other, and answers whether it was there. The block passes through `work`, a buffer
+// of the caller, since no store takes memory.
 pub fn copy_block<S: Store, T: Store>(
     from: &S,
     to: &mut T,

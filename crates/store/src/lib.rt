@@ -23,9 +23,10 @@ mod spent;
 mod store;
 
 pub use admission::admit;
-pub use block::{BLOCK_LIMIT, Block};
+pub use block::Block;
 pub use compared::Compared;
 pub use copy::copy_block;
+pub use digest::BLOCK_LIMIT;
 pub use draft::Draft;
 pub use each::{Answers, call_each};
 pub use fault::Fault;

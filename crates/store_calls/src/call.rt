@@ -4,11 +4,11 @@ ghost use Rattle.std.specs.Prelude.{◌≡◌, replicate, slice_set};
 use crate::buffer::{MARK, untouched};
 use digest::Digest;
 use std::alloc::{AllocError, Global};
-use store::Store;
+use store::{BLOCK_LIMIT, Store};
 
 // A name is told by its last byte, and a block by its length and its first byte. Calls are values and no closures: the tables are read beside
 // the model, and each line says its call.
-#[derive(Clone, Copy)]
+#[derive(Debug, Clone, Copy)]
 pub(crate) enum Call {
     // The free units, and what the shortest and the longest block cost.
     Units,
@@ -78,7 +78,7 @@ pub(crate) fn carry_out<S: Store>(
 fn units<S: Store>(rt: &HostRuntime, store: &S) -> anyhow::Result<()> {
     let free = store.free();
     let least = store.cost(0);
-    let most = store.cost(10752);
+    let most = store.cost(BLOCK_LIMIT);
     println!(rt; "free {free}, cost {least} to {most}")?;
     Ok(())
 }

@@ -5,7 +5,7 @@
 //   session   the answers to a whole input
 #![tactic(auto)]
 
-ghost use Rattle.std.specs.Prelude.{◌≡◌, ◌+◌, take, IfOk, IfSome};
+ghost use Rattle.std.specs.Prelude.{◌≡◌, ◌+◌, ◌≤◌, take, IfOk, IfSome, vec_len};
 ghost use Rattle.timetable.specs.Session.{limit};
 
 mod command;
@@ -29,9 +29,12 @@ fn main(rt: HostRuntime) -> io::Result<()> {
 
 // All bytes of the input, or enough of them to see that it is too long.
 fn read_input<R: Read + Drop>(heap: Global, input: R) -> io::Result<Vec<u8>>
-    ensures { IfOk result (λ v. IfSome (R.remaining input) (λ bytes. v.items ≡ take (limit + 1) bytes)) }
+    ensures value { IfOk result (λ v. IfSome (R.remaining input) (λ bytes. v.items ≡ take (limit + 1) bytes)) }
+    ensures bound { IfOk result (λ v. vec_len v ≤ limit + 1) }
 {
     let mut bytes = Vec::new(heap);
     input.take(ENOUGH).read_to_end(&mut bytes)?;
+    // That `take` gives no more is known where the reader's bytes are.
+    bytes.truncate(LIMIT + 1);
     Ok(bytes)
 }

@@ -21,17 +21,17 @@ impl Store for Pack<'_> {
         if out.len() < BLOCK_LIMIT {
             return Err(Fault::BufferTooShort);
         }
-        let Some(payloads) = self.lookup(name) else {
-            return Ok(None);
-        };
-        Ok(Some(payloads.copy_to(out)))
+        match self.lookup(name) {
+            None => Ok(None),
+            Some(payloads) => Ok(Some(payloads.copy_to(out))),
+        }
     }
 
     fn compare(&self, name: &Digest, block: &[u8]) -> Compared {
-        match self.lookup(name) {
+        match self.lookup(name).map(|payloads| payloads.is_block(block)) {
             None => Compared::Absent,
-            Some(payloads) if payloads.is_block(block) => Compared::Same,
-            Some(_) => Compared::Other,
+            Some(true) => Compared::Same,
+            Some(false) => Compared::Other,
         }
     }
 

@@ -1,8 +1,12 @@
-use Rattle.std.proofs.Common.{arith, rules}
-use Rattle.std.proofs.Output.{has_written_append, has_written_of_eq}
-use Rattle.digest.proofs.Digits.{hex-take_more}
+-- The digits are ASCII.
+use Rattle.std.proofs.Common.{rules}
+use Rattle.std.specs.Str.{IsUtf8}
+use Rattle.std.proofs.lemmas.Str.{IsUtf8-from_ascii}
+use Rattle.digest.specs.Hex.{hex}
+use Rattle.digest.proofs.Digits.{hex-IsAscii}
 use Rattle.digest.proofs.text.DigestDisplay.fmt.Goals as goal
 
-pub loop-byte-preserved : goal.loop-byte-preserved
-loop-byte-preserved g c = λ plain.
-    has_written_of_eq _ _ _ _ _ (hex-take_more c.args.self.now.bytes c.loop-byte.byte-index (omega arith) (search rules)) (has_written_append _ _ _ _ _ _ (c.loop-byte.invariant plain) (search rules))
+pub unwrap-requires : goal.unwrap-requires
+unwrap-requires g c =
+    let text : IsUtf8 (hex c.args.self.now.bytes) = IsUtf8-from_ascii _ (hex-IsAscii c.args.self.now.bytes) in
+    search rules

@@ -2,7 +2,7 @@
 use Rattle.std.proofs.Common.{arith, rules}
 use Rattle.std.proofs.lemmas.Slice.{overwrites}
 use Rattle.keys.specs.Key.{key_bytes}
-use Rattle.keys.proofs.key.make.joined.Goals as goal
+use Rattle.keys.proofs.key.Key.joined.Goals as goal
 
 pub invariant_of-result : goal.invariant_of-result
 invariant_of-result c = record { some = omega arith; short = omega arith; room = search (rules, overwrites) }
