@@ -7,8 +7,8 @@ use crate::writer::NodeWriter;
 use digest::{Digest, DigestKind};
 use node::Entry;
 
-// Writes the node of this first link and these entries at the start of `out`, and answers how many bytes it has. None, with nothing
-// written, where a node has not so many entries or `out` has no room for every node.
+// Writes the node of this first link and these entries at the start of `out`, a buffer of the caller, and answers how many bytes it has.
+// None, with nothing written, where a node has not so many entries or `out` has no room for every node.
 pub fn write_node<K: DigestKind>(
     out: &mut [u8],
     first: Option<Digest>,

@@ -7,7 +7,8 @@ mod calls;
 mod lookup;
 mod make;
 
-// Memory of 512-byte sectors, tested when the store is made. Where it is no good pack, no sector is used and none is free.
+// Memory of 512-byte sectors, tested when the store is made. Where it is no good pack, no sector is used and none is free. It is not printed,
+// compared or copied: its calls tell what it means.
 #[derive(Drop)]
 pub struct Pack<'a> {
     memory: &'a mut [u8],

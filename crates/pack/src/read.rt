@@ -33,7 +33,7 @@ impl<'a> Iterator for Payloads<'a> {
 }
 
 impl Payloads<'_> {
-    // Copies the block to the start of `out`, and answers its length.
+    // Copies the block to the start of `out`, and answers its length, which therefore is counted.
     pub(crate) fn copy_to(self, out: &mut [u8]) -> usize
         requires short { length (block_from self.sectors.now) ≤ length out.old }
         ensures len { result ≡ length (block_from self.entry.sectors.now) }

@@ -32,7 +32,7 @@ fn first_used(sectors: &[Sector]) -> Option<usize>
 }
 
 // How many sectors the blocks take, or the first bad sector. Two loops, over blocks and over their parts, that a label leaves at the first bad
-// sector: the interface of packs fixes this form.
+// sector: a form that the project fixes (docs/DECISIONS.md).
 pub(crate) fn scan(memory: &[u8]) -> Result<usize, MemoryFault>
     ensures { result ≡ scanned (read_sectors (sectors_in memory.now)) }
 {

@@ -13,7 +13,7 @@ use crate::slot::SLOT_SIZE;
 use digest::Digest;
 use store::{BLOCK_LIMIT, Compared, Fault, Store, admit};
 
-// Memory that is cut into slots, one for each whole 10,788 bytes.
+// Memory that is cut into slots, one for each whole 10,788 bytes. It is not printed, compared or copied: its calls tell what it means.
 #[derive(Drop)]
 pub struct Slots<'a> {
     memory: &'a mut [u8],

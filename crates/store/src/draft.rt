@@ -10,6 +10,7 @@ use crate::fault::Fault;
 use crate::store::Store;
 use digest::Digest;
 
+// Not printed, compared or copied, as no store is.
 #[derive(Drop)]
 pub struct Draft<F, B> {
     pub front: F,

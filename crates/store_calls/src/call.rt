@@ -7,7 +7,7 @@ use std::alloc::{AllocError, Global};
 use store::{BLOCK_LIMIT, Store};
 
 // A name is told by its last byte, and a block by its length and its first byte. Calls are values and no closures: the tables are read beside
-// the model, and each line says its call.
+// the model, and each says its call in full.
 #[derive(Debug, Clone, Copy)]
 pub(crate) enum Call {
     // The free units, and what the shortest and the longest block cost.
