@@ -20,7 +20,7 @@ pub(crate) struct Damage {
 }
 
 impl Damage {
-    // Changes the bits; where there is no such byte, nothing. Done twice, the memory is as before.
+    // Changes the bits, and then the sum, if it is to be put right. Done twice to a sector whose sum is right, it leaves the memory as before.
     pub(crate) fn toggle(&self, memory: &mut [u8])
         ensures { length memory.new ≡ length memory.old }
     {
