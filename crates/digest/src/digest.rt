@@ -1,12 +1,11 @@
 // A digest by value, and the layer that it gives a key.
-ghost use Rattle.std.specs.Prelude.{◌≡◌, ◌≤◌, length};
+ghost use Rattle.std.specs.Prelude.{◌≡◌, ◌≤◌};
 ghost use Rattle.digest.specs.Layer.{digest_layer, zero_bits};
 
 // The 32 bytes that name a block or a key.
 #[derive(Debug, Clone, Copy, PartialEq, Eq, Hash)]
 pub struct Digest {
     pub bytes: [u8; 32],
-    ghost size: { length bytes ≡ 32 },
 }
 
 impl Digest {

@@ -1,5 +1,5 @@
 -- What two byte strings share at the front. Assumes nothing.
-use Rattle.std.proofs.Common.{◌≡◌, ℕ, zero, suc, ◌+◌, ◌-◌, ◌<◌, ◌≤◌, Bool, nat_eq, List, [], ◌∷◌, ◌++◌, length, get_or, take, drop, refl, ◌∙◌, arith}
+use Rattle.std.proofs.Common.{◌≡◌, ℕ, zero, suc, ◌+◌, ◌-◌, ◌<◌, ◌≤◌, Bool, nat_eq, List, [], ◌∷◌, ◌++◌, length, get_or, take, drop, min, ap, refl, ◌∙◌, arith}
 use Rattle.std.proofs.lemmas.List.{get_or-append_right, length-append, length-take-le, take-append-drop}
 use Rattle.std.proofs.lemmas.List.Folds.{length-prefix_len}
 use Rattle.std.proofs.lemmas.Bool.{ne_eqb}
@@ -47,6 +47,15 @@ prefix_len-zip (x ∷ a) (y ∷ b) = let rest = prefix_len-zip a b in grind (ari
 
 pub length-zip_front : (a b : List ℕ) → length (take (prefix_len same_bytes (zip a b)) (zip a b)) ≡ shared a b
 length-zip_front a b = length-prefix_len same_bytes (zip a b) ∙ prefix_len-zip a b
+
+-- two strings side by side end with the shorter, so that both may be cut where it ends
+pub zip_cut : (n : ℕ) (a b : List ℕ) → min (length a) (length b) ≤ n → zip (take n a) (take n b) ≡ zip a b
+zip_cut zero [] b past = refl
+zip_cut (suc n) [] b past = refl
+zip_cut zero (x ∷ a) [] past = refl
+zip_cut (suc n) (x ∷ a) [] past = refl
+zip_cut zero (x ∷ a) (y ∷ b) past = grind arith
+zip_cut (suc n) (x ∷ a) (y ∷ b) past = ap (λ pairs. (x, y) ∷ pairs) (zip_cut n a b (omega arith))
 
 pub longest_shared : (a b : List ℕ) (n : ℕ) → n ≡ shared a b → LongestShared a b n
 longest_shared a b n is =

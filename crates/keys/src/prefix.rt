@@ -7,5 +7,11 @@ pub fn shared_len(a: &[u8], b: &[u8]) -> usize
     ensures value { result ≡ shared a.now b.now }
     ensures longest { LongestShared a.now b.now result }
 {
-    a.iter().zip(b).take_while(|(x, y)| x == y).count()
+    // Of one length, so that one test tells the end of both.
+    let both = a.len().min(b.len());
+    a[..both]
+        .iter()
+        .zip(&b[..both])
+        .take_while(|(x, y)| x == y)
+        .count()
 }

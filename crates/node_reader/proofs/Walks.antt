@@ -1,6 +1,6 @@
 -- Going through a block byte by byte, and part by part. Assumes nothing.
-use Rattle.std.proofs.Common.{◌≡◌, ℕ, ◌+◌, ◌-◌, ◌<◌, ◌≤◌, Bool, true, false, cond, ltb, List, [], ◌∷◌, ◌++◌, length, take, drop, sym, refl, ap, ◌∙◌, ◌≢◌, append_assoc, arith}
-use Rattle.std.proofs.lemmas.List.{drop_at, drop-drop, length-append, length-drop, length-take, take_all, take-append-drop}
+use Rattle.std.proofs.Common.{◌≡◌, ℕ, ◌+◌, ◌-◌, ◌<◌, ◌≤◌, Bool, true, false, cond, ltb, List, [], ◌∷◌, ◌++◌, length, take, drop, sym, ap, ◌∙◌, subst, append_assoc, arith}
+use Rattle.std.proofs.lemmas.List.{drop-drop, length-append, length-drop, length-take, take_all, take-append-drop}
 use Rattle.std.specs.List.{slice_range}
 use Rattle.node.specs.Format.{byte_string, head, link}
 use Rattle.node.proofs.Prefixes.{head_one}
@@ -11,18 +11,16 @@ use Rattle.node_reader.specs.Stands.{Absent, Part, Stands}
 rest_all : (s : List ℕ) (at : ℕ) → slice_range s at (length s) ≡ drop at s
 rest_all s at = take_all (length s - at) (drop at s) (omega (arith, length-drop at s))
 
--- where bytes stand at the front of what is lent from `at` on, and where they don't
-module _ (s : List ℕ) (at : ℕ) (p rest : List ℕ) (lent : rest ≡ slice_range s at (length s)) where
-  pub front_absent : ((r : List ℕ) → rest ≢ p ++ r) → Absent s at p
-  front_absent other = λ r e. other r (lent ∙ rest_all s at ∙ e)
-
-  pub front_stands : (behind : List ℕ) → at ≤ length s → rest ≡ p ++ behind → Stands s at p (length s - length behind)
-  front_stands behind within is =
-      let here : drop at s ≡ p ++ behind = sym (rest_all s at) ∙ sym lent ∙ is in
-      let sizes : length s - at ≡ length p + length behind = sym (length-drop at s) ∙ ap length here ∙ length-append p behind in
-      let end : length s - length behind ≡ at + length p = omega arith in
-      let left : drop (at + length p) s ≡ behind = sym (drop-drop (length p) at s) ∙ ap (drop (length p)) here ∙ drop_at p behind (length p) refl in
-      record { within = omega arith; is = rw (end, left) here }
+-- p stands where it is the front of what is lent from `at` on
+pub front_stands : (s : List ℕ) (at : ℕ) (p rest : List ℕ) → at ≤ length s → rest ≡ slice_range s at (length s) → length p ≤ length rest → slice_range rest 0 (length p) ≡ p
+    → Stands s at p (at + length p)
+front_stands s at p rest within lent room same =
+    let all : rest ≡ drop at s = lent ∙ rest_all s at in
+    let whole : length p ≡ length p - 0 = omega arith in
+    let here : take (length p) (drop at s) ≡ p = ap (take (length p)) (sym all) ∙ ap (λ n. take n rest) whole ∙ same in
+    let behind = drop-drop (length p) at s in
+    let both = take-append-drop (length p) (drop at s) in
+    record { within = omega (arith, length-drop at s, ap length all); is = cc }
 
 -- a part of s from `start` on
 part_then : (s : List ℕ) (start n : ℕ) → drop start s ≡ take ((start + n) - start) (drop start s) ++ drop (start + n) s
@@ -90,6 +88,16 @@ module _ (s : List ℕ) (at start m n : ℕ) (behind : Stands s at (head m n) st
         ends = omega arith;
         part = part_of s start n room;
       }
+
+  -- the same, as the front of all that stands from `start` on
+  pub string_front : (rest b : List ℕ) → n < 256 → rest ≡ slice_range s start (length s) → n ≤ length rest → b ≡ slice_range rest 0 n → length b ≡ n
+      → ReadsString s at m b (start + length b)
+  string_front rest b small lent room first size =
+      let all : rest ≡ drop start s = lent ∙ rest_all s start in
+      let long : start + n ≤ length s = omega (arith, behind.within, length-drop start s, ap length all) in
+      let cut : n - 0 ≡ (start + n) - start = omega arith in
+      let same : b ≡ slice_range s start (start + n) = first ∙ ap (λ k. take k rest) cut ∙ ap (take ((start + n) - start)) all in
+      subst (λ k. ReadsString s at m b (start + k)) (sym size) (string_stands b small long same)
 
 module _ (s : List ℕ) (at start c : ℕ) (behind : Stands s at (link c []) start) where
   pub link_stands : (d : List ℕ) → 32 ≤ length (slice_range s start (length s)) → d ≡ take 32 (slice_range s start (length s)) → ReadsLink s at c d (start + 32)

@@ -14,8 +14,8 @@ use digest::Digest;
 use keys::{Key, shared_len};
 use node::Entry;
 
-// The entries from a cursor on.
-#[derive(Debug, Drop)]
+// The entries from a cursor on. A copy keeps its place.
+#[derive(Debug, Clone, Copy)]
 pub struct Entries<'a> {
     pub(crate) input: Input<'a>,
     pub(crate) cursor: Cursor,

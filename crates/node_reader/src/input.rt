@@ -29,20 +29,29 @@ impl<'a> Input<'a> {
         }
     }
 
-    // Where `expected` ends, if it stands at `at`.
+    // Where `expected` ends, if it stands at `at`. Byte by byte: the first byte mostly decides, and the length is known at each call, where the loop
+    // is laid out as so many tests. `==` of slices would be a call.
     pub(crate) fn skip(self, at: usize, expected: &[u8]) -> Option<usize>
         requires { 0 < length expected.now }
         ensures { MatchOption result (Absent self.entry.block.now at expected.now) (λ end. Stands self.entry.block.now at expected.now end) }
     {
-        let behind = self.block.get(at..)?.strip_prefix(expected)?;
-        Some(self.block.len() - behind.len())
+        let front = self.block.get(at..)?.get(..expected.len())?;
+        if !front.iter().zip(expected).all(|(x, y)| x == y) {
+            return None;
+        }
+        Some(at + expected.len())
     }
 
     // The number in a head of this type at `at`, and where the head ends.
     pub(crate) fn head(self, at: usize, major: MajorType) -> Option<(u8, usize)>
         ensures { MatchOption result (NoHead self.entry.block.now at (major_base major)) (λ v. Stands self.entry.block.now at (head (major_base major) v.0) v.1) }
     {
-        let n = self.block.get(at)?.checked_sub(major.base())?;
+        let first = *self.block.get(at)?;
+        // A test, which costs less here than `checked_sub`: the readers try one type after the other.
+        if first < major.base() {
+            return None;
+        }
+        let n = first - major.base();
         if n < FIRST_LARGE {
             return Some((n, at + 1));
         }
@@ -61,8 +70,9 @@ impl<'a> Input<'a> {
         ensures { MatchOption result (NoString self.entry.block.now at (major_base major)) (λ v. ReadsString self.entry.block.now at (major_base major) v.0.now v.1) }
     {
         let (len, start) = self.head(at, major)?;
-        let end = start + len as usize;
-        Some((self.block.get(start..end)?, end))
+        // Cut twice, since a range would test that its end is not before its start.
+        let bytes = self.block.get(start..)?.get(..len as usize)?;
+        Some((bytes, start + bytes.len()))
     }
 
     // The digest of the link at `at`, and where it ends.

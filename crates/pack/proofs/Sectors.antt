@@ -4,9 +4,9 @@ use Rattle.std.proofs.lemmas.Grind.{common_steps}
 use Rattle.std.proofs.Common.{◌≡◌, ℕ, ◌+◌, ◌-◌, ◌*◌, ◌<◌, ◌≤◌, true, false, ◌&&◌, ltb, leb, List, ◌++◌, length, get_or, take, drop, sym, refl, ap, ◌∙◌, arith}
 use Rattle.std.specs.Str.{bytes_eq}
 use Rattle.std.proofs.lemmas.Slice.Eq.{bytes_eq-Decides}
-use Rattle.std.proofs.lemmas.List.{drop_at, drop-drop, length-append, length-replicate, take_at}
+use Rattle.std.proofs.lemmas.List.{drop_at, drop-drop, length-append, length-drop, length-replicate, length-take-le, take_at}
 use Rattle.std.proofs.lemmas.Bool.{and_from, and_right, le-leb, lt-ltb}
-use Rattle.pack.specs.Sector.{zeros, weighed, four_bytes, body, sector, unused_sector, more_follows, last, name_of, count_of, payload_of}
+use Rattle.pack.specs.Sector.{zeros, weighed, four_bytes, head, body, sector, unused_sector, more_follows, last, name_of, count_of, payload_of}
 use Rattle.pack.specs.Reader.{fewest, goes_on, ends}
 
 pub length-zeros : (n : ℕ) → length (zeros n) ≡ n
@@ -54,6 +54,13 @@ same_refl xs = (bytes_eq-Decides xs xs).1 refl
 -- bytes that differ are not the same
 pub same_no : (xs ys : List ℕ) → (xs ≡ ys → ⊥) → bytes_eq xs ys ≡ false
 same_no xs ys apart = grind (arith, nat_tests, bytes_eq-Decides)
+
+-- where the first eight bytes are no head of a part, the whole is no such part
+pub wrong_head : (s : List ℕ) (kind part count : ℕ) → length s ≡ 512 → count ≤ 468 → (take 8 s ≡ head kind part count → ⊥) → bytes_eq s (sector kind part (name_of s) (payload_of count s)) ≡ false
+unfolding sector body
+wrong_head s kind part count whole short apart =
+    let size : length (payload_of count s) ≡ count = length-take-le count (drop 40 s) (omega (arith, length-drop 40 s)) in
+    same_no s (sector kind part (name_of s) (payload_of count s)) (λ is. apart (ap (take 8) is ∙ ap (head kind part) size))
 
 -- sectors of different kinds differ
 pub kinds_apart : (s t : List ℕ) (j k : ℕ) → get_or s 0 0 ≡ j → get_or t 0 0 ≡ k → (j ≡ k → ⊥) → bytes_eq s t ≡ false

@@ -48,9 +48,10 @@ impl Part<'_> {
         ]
     }
 
-    // The whole sector.
+    // The whole sector. That a digest has 32 bytes is said for callers that do not look into it.
     pub(crate) fn to_sector(&self) -> Sector
-        ensures { result ≡ sector_of (code_of self.now.kind) self.now.number self.now.name.bytes self.now.payload.now }
+        ensures value { result ≡ sector_of (code_of self.now.kind) self.now.number self.now.name.bytes self.now.payload.now }
+        ensures name_size { length self.now.name.bytes ≡ 32 }
     {
         let mut sector = [0; SECTOR_SIZE];
         let end = PAYLOAD_AT + self.payload.len();
@@ -74,7 +75,8 @@ fn is_part(sector: &Sector, kind: PartKind, number: u16, count: usize) -> bool
         name: name_in(sector),
         payload: &sector[PAYLOAD_AT..PAYLOAD_AT + count],
     };
-    *sector == part.to_sector()
+    // The head first: it tells most sectors that are no such part, and is made without the rest.
+    sector[..NAME_AT] == part.head()[..] && *sector == part.to_sector()
 }
 
 // Whether a sector is a full part of this number, and another part can follow it.

@@ -7,14 +7,14 @@ ghost use Rattle.pack.specs.Scan.{has_name, is_used, scanned};
 
 use crate::fault::MemoryFault;
 use crate::part::{ends, goes_on};
-use crate::sector::{SECTOR_SIZE, Sector, is_unused, name_in};
+use crate::sector::{NAME_AT, PAYLOAD_AT, SECTOR_SIZE, Sector, is_unused, name_in};
 use digest::Digest;
 
 // Whether a sector has this name.
 fn has_name(sector: &Sector, name: &Digest) -> bool
     ensures { result ≡ has_name name.now.bytes sector.now }
 {
-    name_in(sector) == *name
+    sector[NAME_AT..PAYLOAD_AT] == name.bytes[..]
 }
 
 // The first sector that has this name.

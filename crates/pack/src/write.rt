@@ -23,10 +23,11 @@ fn write_sector(memory: &mut [u8], place: usize, sector: &Sector)
     memory[at..at + SECTOR_SIZE].copy_from_slice(sector);
 }
 
-// Writes a block to the sectors from a place on, and no others.
+// Writes a block to the sectors from a place on, and no others. The size of the name is said again for `Pack::add`.
 pub(crate) fn write_block(memory: &mut [u8], place: usize, name: &Digest, block: Block)
     requires { place + sector_cost (length block.bytes.now) ≤ length memory.old / 512 }
-    ensures { sectors_in memory.new ≡ take place (sectors_in memory.old) ++ (block_sectors name.now.bytes block.entry.bytes.now ++ drop (place + sector_cost (length block.entry.bytes.now)) (sectors_in memory.old)) }
+    ensures after { sectors_in memory.new ≡ take place (sectors_in memory.old) ++ (block_sectors name.now.bytes block.entry.bytes.now ++ drop (place + sector_cost (length block.entry.bytes.now)) (sectors_in memory.old)) }
+    ensures name_size { length name.now.bytes ≡ 32 }
 {
     let full = sectors_for(block.bytes.len()) - 1;
     let (front, rest) = block.bytes.split_at(full * PART_SIZE);

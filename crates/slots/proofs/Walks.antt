@@ -1,9 +1,10 @@
 -- Walks over slots: what is passed, and what is found. Assumes nothing.
-use Rattle.std.proofs.Common.{◌≡◌, ℕ, suc, ◌+◌, ◌<◌, Bool, true, false, not, cond, List, [], ◌∷◌, length, get_or, Some, None, refl, Option, sym, ap, subst, ◌∙◌, arith}
-use Rattle.std.specs.List.{find, filter, AllWithin, HoldsAt}
+use Rattle.std.proofs.Common.{◌≡◌, ℕ, suc, ◌+◌, ◌<◌, ◌≤◌, Bool, true, false, cond, List, [], ◌∷◌, length, get_or, Some, None, refl, Option, sym, ap, subst, ◌∙◌, arith}
+use Rattle.std.specs.List.{find, sum_by, AllWithin, HoldsAt}
 use Rattle.std.specs.Str.{bytes_eq}
 use Rattle.std.specs.Option.{option_map, MatchOption}
 use Rattle.std.proofs.lemmas.Bool.{and_parts}
+use Rattle.std.proofs.lemmas.List.Sums.{sum_by-cons}
 use Rattle.store.specs.declared.block.Block.{Block}
 use Rattle.slots.specs.Memory.{holds, held_in, unused}
 use Rattle.slots.specs.Slot.{is_used, slot_block, slot_name}
@@ -27,15 +28,14 @@ pub used-find : (ss : List (List ℕ)) (name s : List ℕ) → find (λ x. holds
 used-find [] name s is = cc
 used-find (x ∷ ss) name s is = used_here ss name x s (holds x name) refl (used-find ss name s) is
 
--- unused slots are those that a filter leaves
-pub unused-filter : (ss : List (List ℕ)) → length (filter (λ s. not (is_used s)) ss) ≡ unused ss
-unused-filter [] = refl
-unused-filter (s ∷ ss) =
-    let rest = unused-filter ss in
-    elim (is_used s) as (λ t. length (cond (not t) (s ∷ filter (λ x. not (is_used x)) ss) (filter (λ x. not (is_used x)) ss)) ≡ cond t 0 1 + unused ss) [
-      | true ↦ omega arith
-      | false ↦ omega arith
-    ]
+-- each unused slot adds one
+pub unused-sum : (ss : List (List ℕ)) → sum_by (λ s. cond (is_used s) 0 1) ss ≡ unused ss
+unused-sum [] = refl
+unused-sum (s ∷ ss) = sum_by-cons (λ x. cond (is_used x) 0 1) s ss ∙ ap (λ n. cond (is_used s) 0 1 + n) (unused-sum ss)
+
+pub unused_le : (ss : List (List ℕ)) → unused ss ≤ length ss
+unused_le [] = omega arith
+unused_le (s ∷ ss) = let rest = unused_le ss in grind (arith, rest)
 
 -- where every slot is used, none is unused
 pub unused_none : (ss : List (List ℕ)) → AllWithin (λ s. is_used s ≡ true) ss 0 (length ss) → unused ss ≡ 0

@@ -17,12 +17,12 @@ pub(crate) fn lookup<'a>(memory: &'a [u8], name: &Digest) -> Option<Block<'a>>
     block_in(slots.iter().find(|slot| has_name(slot, name))?)
 }
 
-// How many slots are unused.
+// How many slots are unused. A sum, since a filter with a count takes more instructions for each slot.
 pub(crate) fn count_unused(memory: &[u8]) -> usize
     ensures { result ≡ unused (slots_in memory.now) }
 {
     let (slots, _) = memory.as_chunks::<SLOT_SIZE>();
-    slots.iter().filter(|slot| !in_use(slot)).count()
+    slots.iter().map(|slot| usize::from(!in_use(slot))).sum()
 }
 
 // The place of an unused slot. It is the first, but nothing above rests on that.
@@ -33,11 +33,12 @@ fn find_unused(memory: &[u8]) -> Option<usize>
     slots.iter().position(|slot| !in_use(slot))
 }
 
-// Writes a pair into the slot at a place.
+// Writes a pair into the slot at a place. The size of the name is said again for `add_pair`.
 fn fill_place(memory: &mut [u8], place: usize, name: &Digest, block: Block)
     requires { place < length memory.old / 10788 }
     ensures after { slots_in memory.new ≡ slice_set (slots_in memory.old) place (filled name.now.bytes block.entry.bytes.now (slice_index_or (slots_in memory.old) place [])) }
     ensures rest { left_over memory.new ≡ left_over memory.old }
+    ensures name_size { length name.now.bytes ≡ 32 }
 {
     let at = place * SLOT_SIZE;
     fill(&mut memory[at..at + SLOT_SIZE], name, block);

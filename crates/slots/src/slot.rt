@@ -50,10 +50,11 @@ pub(crate) fn block_in(slot: &[u8; SLOT_SIZE]) -> Option<Block<'_>>
     Some(Block { bytes })
 }
 
-// Writes a name and a block into a slot.
+// Writes a name and a block into a slot. That a digest has 32 bytes is said for callers that do not look into it.
 pub(crate) fn fill(slot: &mut [u8], name: &Digest, block: Block)
     requires { length slot.old ≡ 10788 }
-    ensures { slot.new ≡ filled name.now.bytes block.entry.bytes.now slot.old }
+    ensures after { slot.new ≡ filled name.now.bytes block.entry.bytes.now slot.old }
+    ensures name_size { length name.now.bytes ≡ 32 }
 {
     let block = block.bytes;
     let end = BLOCK_AT + block.len();

@@ -11,7 +11,7 @@ use crate::fault::MemoryFault;
 use crate::memory::{add_pair, count_unused, empty_all, lookup};
 use crate::slot::SLOT_SIZE;
 use digest::Digest;
-use store::{BLOCK_LIMIT, Compared, Fault, Store, admit};
+use store::{BLOCK_LIMIT, Block, Compared, Fault, Store, admit};
 
 // Memory that is cut into slots, one for each whole 10,788 bytes. It is not printed, compared or copied: its calls tell what it means.
 #[derive(Drop)]
@@ -71,6 +71,8 @@ impl Store for Slots<'_> {
         ensures after { slots_meaning self.new.memory.now ≡ put_after (slots_meaning self.old.memory.now) name.now.bytes block.now }
         ensures rest { left_over self.new.memory.now ≡ left_over self.old.memory.now }
     {
+        // One that is too long is looked up nowhere.
+        Block::try_from(block)?;
         match admit(block, self.compare(name, block))? {
             Some(block) => add_pair(self.memory, name, block),
             None => Ok(()),

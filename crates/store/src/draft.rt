@@ -5,6 +5,7 @@ ghost use Rattle.store.specs.Calls.{left_by, outcome, put_answer, put_after};
 ghost use Rattle.store.specs.Drafts.{draft_of, draft_lawful};
 
 use crate::admission::admit;
+use crate::block::Block;
 use crate::compared::Compared;
 use crate::fault::Fault;
 use crate::store::Store;
@@ -42,6 +43,8 @@ impl<F: Store, B: Store> Store for Draft<F, B> {
         ensures front { F.Store.meaning self.new.front ≡ left_by (outcome (draft_of (F.Store.meaning self.old.front) (B.Store.meaning self.old.back)) name.now.bytes block.now) (F.Store.meaning self.old.front) name.now.bytes block.now }
         ensures back { self.new.back ≡ self.old.back }
     {
+        // One that is too long is looked up nowhere.
+        Block::try_from(block)?;
         match admit(block, self.compare(name, block))? {
             Some(block) => self.front.put(name, block.bytes),
             None => Ok(()),

@@ -1,3 +1,4 @@
 pub mod Commands
 pub mod Cuts
 pub mod Sessions
+pub mod Taken

@@ -5,7 +5,9 @@
 //   session   the answers to a whole input
 #![tactic(auto)]
 
-ghost use Rattle.std.specs.Prelude.{◌≡◌, ◌+◌, ◌≤◌, take, IfOk, IfSome, vec_len};
+ghost use Rattle.std.specs.Prelude.{◌≡◌, ◌+◌, ◌≤◌, take, IfOk, IfSome};
+ghost use Rattle.std.specs.Io.{ReadsAtMost};
+ghost use Rattle.std.specs.Io.KnownBytes.{ReadConsumes};
 ghost use Rattle.timetable.specs.Session.{limit};
 
 mod command;
@@ -14,27 +16,45 @@ mod session;
 
 use session::{LIMIT, answers};
 use sha256::Sha256;
-use std::alloc::Global;
 use std::io;
-use std::io::{Read, Write};
+use std::io::{ErrorKind, Read, Write};
 
-// One byte more than a session takes.
-const ENOUGH: u64 = LIMIT as u64 + 1;
+// Room for one byte more than a session takes. An array: to read takes no memory, and the first read asks for all at once.
+const BUFFER: usize = LIMIT + 1;
 
 fn main(rt: HostRuntime) -> io::Result<()> {
-    let input = read_input(rt.alloc(), rt.stdin())?;
-    let out = answers::<Sha256>(rt.alloc(), &input)?;
+    let mut buffer = [0u8; BUFFER];
+    let count = read_input(&mut rt.stdin(), &mut buffer)?;
+    let out = answers::<Sha256>(rt.alloc(), &buffer[..count])?;
     rt.stdout().write_all(out.as_bytes())
 }
 
-// All bytes of the input, or enough of them to see that it is too long.
-fn read_input<R: Read + Drop>(heap: Global, input: R) -> io::Result<Vec<u8>>
-    ensures value { IfOk result (λ v. IfSome (R.remaining input) (λ bytes. v.items ≡ take (limit + 1) bytes)) }
-    ensures bound { IfOk result (λ v. vec_len v ≤ limit + 1) }
+// Reads all bytes of the input, or enough of them to see that it is too long, and says how many came.
+fn read_input<R: Read>(input: &mut R, buffer: &mut [u8; BUFFER]) -> io::Result<usize>
+    ensures value { IfOk result (λ n. IfSome (R.remaining input.old) (λ bytes. take n buffer.new ≡ take (limit + 1) bytes)) }
+    ensures bound { IfOk result (λ n. n ≤ limit + 1) }
 {
-    let mut bytes = Vec::new(heap);
-    input.take(ENOUGH).read_to_end(&mut bytes)?;
-    // That `take` gives no more is known where the reader's bytes are.
-    bytes.truncate(LIMIT + 1);
-    Ok(bytes)
+    let mut filled = 0;
+    while filled < BUFFER {
+        let count = read_some(input, &mut buffer[filled..])?;
+        if count == 0 {
+            break;
+        }
+        filled += count;
+    }
+    Ok(filled)
+}
+
+// One read, made again where a signal interrupts it.
+fn read_some<R: Read>(input: &mut R, buffer: &mut [u8]) -> io::Result<usize>
+    ensures bound { ReadsAtMost result buffer.new }
+    ensures bytes { ReadConsumes (R.remaining input.old) (R.remaining input.new) result buffer.new }
+{
+    for _ in 0..u64::MAX {
+        match input.read(buffer) {
+            Err(fault) if fault.kind() == ErrorKind::Interrupted => {}
+            answer => return answer,
+        }
+    }
+    Err(ErrorKind::Interrupted.into())
 }

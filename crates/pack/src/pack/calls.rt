@@ -10,7 +10,7 @@ ghost use Rattle.pack.specs.Put.{Kept, put_sectors};
 use super::Pack;
 use crate::write::sectors_for;
 use digest::Digest;
-use store::{BLOCK_LIMIT, Compared, Fault, Store, admit};
+use store::{BLOCK_LIMIT, Block, Compared, Fault, Store, admit};
 
 impl Store for Pack<'_> {
     ghost meaning = { λ s. pack_meaning s.memory.now };
@@ -42,6 +42,8 @@ impl Store for Pack<'_> {
         ensures sectors { sectors_in self.new.memory.now ≡ put_sectors self.old.memory.now name.now.bytes block.now }
         ensures kept { Kept (outcome (pack_meaning self.old.memory.now) name.now.bytes block.now) self.old.memory.now self.new.memory.now }
     {
+        // One that is too long is looked up nowhere.
+        Block::try_from(block)?;
         match admit(block, self.compare(name, block))? {
             Some(block) => self.add(name, block),
             None => Ok(()),

@@ -24,10 +24,10 @@ loop-number-preserved c =
     let room : (number + 1) * 468 ≤ length block = omega (arith, upto, below) in
     c.write_sector.ensures
     ∙ ap (λ xs. set xs (place + number) c.to_sector.result) c.loop-number.invariant
-    ∙ written_more ss place name block c.to_sector.result number within room (c.to_sector.ensures ∙ ap (sector 1 number name) (whole_part block full number c.as_chunks.result.0.now upto cuts below))
+    ∙ written_more ss place name block c.to_sector.result number within room (c.to_sector.ensures.value ∙ ap (sector 1 number name) (whole_part block full number c.as_chunks.result.0.now upto cuts below))
 
-pub returns : goal.returns
-returns c =
+pub returns-clause-after : goal.returns-clause-after
+returns-clause-after c =
     let ss = sectors_in c.args.memory.now in
     let full = c.sectors_for-full.result - 1 in
     let place = c.args.place in
@@ -42,4 +42,4 @@ returns c =
     let w = c.to_sector-2.result in
     c.write_sector-2.ensures
     ∙ ap (λ xs. set xs (place + full) w) (c.loop-number.invariant ∙ ap (so_far ss place name block) upto)
-    ∙ written_last ss place name block w full count c.args.block.short room (c.to_sector-2.ensures ∙ ap (sector 2 full name) c.split_at.ensures.back)
+    ∙ written_last ss place name block w full count c.args.block.short room (c.to_sector-2.ensures.value ∙ ap (sector 2 full name) c.split_at.ensures.back)

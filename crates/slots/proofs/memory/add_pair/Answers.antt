@@ -27,5 +27,5 @@ returns-clause-after c =
     let name = c.args.name.now.bytes in
     let block = c.args.block.bytes.now in
     let at = place (goal.at.returns-clause-after c).In_ok-place in
-    pair_added c.args.memory.now c.fill_place.new.memory c.in_ok-place.place name block at.0 at.1 c.requires c.args.name.now.size c.args.block.short c.fill_place.ensures.after
+    pair_added c.args.memory.now c.fill_place.new.memory c.in_ok-place.place name block at.0 at.1 c.requires c.fill_place.ensures.name_size c.args.block.short c.fill_place.ensures.after
     ∙ sym (ap (λ k. left_by k m name block) (is_added (goal.at.returns-clause-after c).In_ok-place))

@@ -28,7 +28,7 @@ invariant_of-self c =
     let n = c.write_block.new.memory in
     let name = c.args.name.now.bytes in
     let block = c.args.block.bytes.now in
-    let is = added_read m n s.used s.free c.sectors_for-cost.result name block s.filled s.vacant c.sectors_for-cost.ensures c.if-cost-self.false c.write_block.auto.memory c.args.name.now.size c.args.block.short c.requires c.write_block.ensures in
+    let is = added_read m n s.used s.free c.sectors_for-cost.result name block s.filled s.vacant c.sectors_for-cost.ensures c.if-cost-self.false c.write_block.auto.memory c.write_block.ensures.name_size c.args.block.short c.requires c.write_block.ensures.after in
     record {
       filled = omega (arith, used_written m n name block is, s.filled, c.sectors_for-cost.ensures);
       vacant = omega (arith, ap free_read is, s.vacant, c.sectors_for-cost.ensures);
@@ -40,7 +40,7 @@ returns-clause-after c =
     let m = s.memory.now in
     let name = c.args.name.now.bytes in
     let block = c.args.block.bytes.now in
-    let is = added_read m c.write_block.new.memory s.used s.free c.sectors_for-cost.result name block s.filled s.vacant c.sectors_for-cost.ensures c.if-cost-self.false c.write_block.auto.memory c.args.name.now.size c.args.block.short c.requires c.write_block.ensures in
+    let is = added_read m c.write_block.new.memory s.used s.free c.sectors_for-cost.result name block s.filled s.vacant c.sectors_for-cost.ensures c.if-cost-self.false c.write_block.auto.memory c.write_block.ensures.name_size c.args.block.short c.requires c.write_block.ensures.after in
     let room : sector_cost (length block) ≤ free_in m = omega (arith, c.if-cost-self.false, c.sectors_for-cost.ensures, s.vacant) in
     let o = outcome_added (pack_meaning m) name block c.args.block.short c.requires room in
     meaning_written m c.write_block.new.memory name block c.requires is ∙ sym (ap (λ k. left_by k (pack_meaning m) name block) o)

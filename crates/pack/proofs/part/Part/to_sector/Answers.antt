@@ -1,5 +1,5 @@
 -- The pieces stand one behind the other.
-use Rattle.std.proofs.Common.{length, refl, ap, ◌∙◌, rules}
+use Rattle.std.proofs.Common.{◌≡◌, length, refl, ap, ◌∙◌, rules}
 use Rattle.pack.specs.Part.{code_of}
 use Rattle.pack.specs.Sector.{four_bytes, zeros}
 use Rattle.pack.proofs.Makes.{length_laid, made}
@@ -9,20 +9,23 @@ pub slice_bounds-weigh-end : goal.slice_bounds-weigh-end
 unfolding zeros
 slice_bounds-weigh-end c =
     let s = c.args.self.now in
-    let wide = length_laid (length s.payload.now) c.copy_from_slice.new.self c.copy_from_slice-2.new.self c.copy_from_slice-3.new.self (zeros 512) c.copy_from_slice.ensures.len (ap length c.copy_from_slice-2.ensures.after ∙ s.name.size) (ap length c.copy_from_slice-3.ensures.after) s.short refl in
+    let long : length s.name.bytes ≡ 32 = search rules in
+    let wide = length_laid (length s.payload.now) c.copy_from_slice.new.self c.copy_from_slice-2.new.self c.copy_from_slice-3.new.self (zeros 512) c.copy_from_slice.ensures.len (ap length c.copy_from_slice-2.ensures.after ∙ long) (ap length c.copy_from_slice-3.ensures.after) s.short refl in
     search rules
 
 pub slice_bounds-sector-end-4 : goal.slice_bounds-sector-end-4
 unfolding zeros
 slice_bounds-sector-end-4 c =
     let s = c.args.self.now in
-    let wide = length_laid (length s.payload.now) c.copy_from_slice.new.self c.copy_from_slice-2.new.self c.copy_from_slice-3.new.self (zeros 512) c.copy_from_slice.ensures.len (ap length c.copy_from_slice-2.ensures.after ∙ s.name.size) (ap length c.copy_from_slice-3.ensures.after) s.short refl in
+    let long : length s.name.bytes ≡ 32 = search rules in
+    let wide = length_laid (length s.payload.now) c.copy_from_slice.new.self c.copy_from_slice-2.new.self c.copy_from_slice-3.new.self (zeros 512) c.copy_from_slice.ensures.len (ap length c.copy_from_slice-2.ensures.after ∙ long) (ap length c.copy_from_slice-3.ensures.after) s.short refl in
     search rules
 
-pub returns : goal.returns
+pub returns-clause-value : goal.returns-clause-value
 unfolding zeros
-returns c =
+returns-clause-value c =
     let s = c.args.self.now in
+    let long : length s.name.bytes ≡ 32 = search rules in
     made
     (code_of s.kind)
     s.number
@@ -33,7 +36,7 @@ returns c =
     c.copy_from_slice-2.new.self
     c.copy_from_slice-3.new.self
     c.copy_from_slice-4.new.self
-    s.name.size
+    long
     s.short
     refl
     (c.copy_from_slice.ensures.after ∙ c.head.ensures)
